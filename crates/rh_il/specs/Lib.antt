@@ -1,0 +1,5 @@
+pub mod Name
+pub mod Spelling
+pub mod Value
+pub mod Op
+pub mod Unspelled
