@@ -3,3 +3,4 @@ pub mod Spelling
 pub mod Value
 pub mod Op
 pub mod Unspelled
+pub mod Flow
