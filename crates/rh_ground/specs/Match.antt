@@ -5,8 +5,7 @@ use Rattle.rh_il.specs.declared.program.Base.{Base}
 use Rattle.rh_il.specs.declared.program.Base.TheVariants.{Var as AVariable, Num as ALiteral}
 use Rattle.rh_il.specs.declared.program.Stmt.{Stmt}
 use Rattle.rh_il.specs.declared.program.Stmt.TheVariants.{Skip as ASkip, Copy as ACopy, Address as AnAddress, Load as ALoad, Compute as AComputation, Write as AWrite, New as ANew, Call as ACall, Goto as AGoto, If as AnIf, Return as AReturn}
-use Rattle.rh_il.specs.declared.value.Op.{Op}
-use Rattle.rh_il.specs.declared.value.Op.TheVariants.{Add, Sub, Mul, Less, Equal}
+use Rattle.rh_il.specs.Op.{op_eq}
 use Rattle.rh_rule.specs.declared.rule.Arg.{Arg}
 use Rattle.rh_rule.specs.declared.rule.Arg.TheVariants.{Var}
 use Rattle.rh_rule.specs.declared.rule.Form.{Form}
@@ -20,14 +19,6 @@ base_eq (AVariable a) (AVariable b) = a == b
 base_eq (ALiteral a) (ALiteral b) = int_eq a b
 base_eq (AVariable a) (ALiteral b) = false
 base_eq (ALiteral a) (AVariable b) = false
-
-abbrev pub op_eq : Op → Op → Bool
-op_eq Add Add = true
-op_eq Sub Sub = true
-op_eq Mul Mul = true
-op_eq Less Less = true
-op_eq Equal Equal = true
-op_eq _ _ = false
 
 -- the metavariable is bound to the variable
 abbrev pub is_variable : Binding → ℕ → ℕ → Bool

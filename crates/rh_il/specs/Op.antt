@@ -1,5 +1,5 @@
 -- What the operators make of two values.
-use Rattle.std.specs.Prelude.{ℤ, pos, ◌+ℤ◌, ◌-ℤ◌, ◌*ℤ◌, Bool, int_lt, if◌then◌else◌, Option, Some, None, unwrap_or}
+use Rattle.std.specs.Prelude.{ℤ, pos, ◌+ℤ◌, ◌-ℤ◌, ◌*ℤ◌, Bool, true, false, int_lt, if◌then◌else◌, Option, Some, None, unwrap_or}
 use Rattle.std.specs.Int.{int_wrap}
 use Rattle.std.specs.Ordering.{int_eq}
 use mir.Syntax.{w64}
@@ -31,3 +31,12 @@ apply op (Ptr a) b = None
 -- the same, and 0 where there is none
 abbrev pub total : Op → Value → Value → Value
 total op a b = unwrap_or (apply op a b) (Num (pos 0))
+
+-- the two are one operator
+abbrev pub op_eq : Op → Op → Bool
+op_eq Add Add = true
+op_eq Sub Sub = true
+op_eq Mul Mul = true
+op_eq Less Less = true
+op_eq Equal Equal = true
+op_eq _ _ = false

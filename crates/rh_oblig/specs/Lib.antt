@@ -1,0 +1,7 @@
+pub mod Tree
+pub mod Literal
+pub mod Meaning
+pub mod Statement
+pub mod Hypotheses
+pub mod Goals
+pub mod TermList
