@@ -1,5 +1,5 @@
 -- What metavariables are bound to.
-use Rattle.std.specs.Prelude.{ℕ, ℤ, pos, Bool, false, ◌==◌, List, [], ◌∷◌, length, map, slice_index_or}
+use Rattle.std.specs.Prelude.{ℕ, ℤ, pos, Bool, false, ◌==◌, ◌<◌, List, [], ◌∷◌, length, map, slice_index_or}
 use Rattle.std.specs.List.{flat_map, range_with_len}
 use Rattle.std.specs.Ordering.{int_eq}
 use Rattle.rh_il.specs.declared.program.Base.{Base}
@@ -12,6 +12,8 @@ use Rattle.rh_rule.specs.declared.rule.RuleBase.TheVariants.{Meta, Num, Wild}
 use Rattle.rh_rule.specs.declared.schema.Kind.{Kind}
 use Rattle.rh_rule.specs.declared.schema.Kind.TheVariants.{Var as AVar, Const as AConst}
 use Rattle.rh_rule.specs.declared.schema.Param.{Param}
+use Rattle.rh_rule.specs.Params.{kind_of}
+use Rattle.rh_il.specs.Value.{IsNumber}
 use Rattle.rh_ground.specs.Constants.{constants_of}
 
 -- for each metavariable, by its number, what it is bound to
@@ -63,3 +65,13 @@ base_under binding base = as_base (arg_under binding base)
 
 abbrev pub variable_under : Binding → ℕ → ℕ
 variable_under binding meta = as_variable (bound binding meta)
+
+-- a variable of the procedure for a metavariable of the kind `var`, and a number for one of the kind `const`
+abbrev pub FitsKind : ℕ → Kind → Arg → Type 0
+FitsKind width AVar (Var number) = number < width
+FitsKind width AConst (Const number) = IsNumber number
+FitsKind width kind arg = ⊥
+
+-- each metavariable is bound by its kind, to one of so many variables or to a number
+abbrev pub FitsBinding : ℕ → List Param → Binding → Type 0
+FitsBinding width params binding = (meta : ℕ) → FitsKind width (kind_of params meta) (bound binding meta)

@@ -23,9 +23,9 @@ pub data Outcome : Type 0 where
   Stuck : Outcome
 
 -- the value of an operand, for the variables at a base
-abbrev pub value_of : List Value → ℕ → Base → Value
-value_of cells base (Var number) = cell cells (base + number)
-value_of cells base (Literal number) = Num number
+abbrev pub base_value : List Value → ℕ → Base → Value
+base_value cells base (Var number) = cell cells (base + number)
+base_value cells base (Literal number) = Num number
 
 -- the frame, gone out of the statement by a slot
 abbrev pub past : Frame → ℕ → Slot → Frame
@@ -83,18 +83,18 @@ returns procs (caller ∷ below) cells value =
 abbrev pub executed : List Proc → Frame → List Frame → List Value → ℕ → Stmt → Outcome
 executed procs top below cells number Skip = goes_on top below number cells
 executed procs top below cells number (Goto to) = goes_on top below number cells
-executed procs top below cells number (Copy to from) = sets top below number cells to (value_of cells top.base from)
+executed procs top below cells number (Copy to from) = sets top below number cells to (base_value cells top.base from)
 executed procs top below cells number (Address to of) = sets top below number cells to (Ptr (top.base + of))
 executed procs top below cells number (Load to from) = loads top below number cells to (cell cells (top.base + from))
 executed procs top below cells number (Compute to op left right) =
-    computes top below number cells to (apply op (value_of cells top.base left) (value_of cells top.base right))
-executed procs top below cells number (Write to from) = writes top below number cells (cell cells (top.base + to)) (value_of cells top.base from)
+    computes top below number cells to (apply op (base_value cells top.base left) (base_value cells top.base right))
+executed procs top below cells number (Write to from) = writes top below number cells (cell cells (top.base + to)) (base_value cells top.base from)
 executed procs top below cells number (New to) =
     sets top below number (cells ++ Num (pos 0) ∷ []) to (Ptr (length cells))
-executed procs top below cells number (If cond taken other) = branches top below number cells (value_of cells top.base cond)
+executed procs top below cells number (If cond taken other) = branches top below number cells (base_value cells top.base cond)
 executed procs top below cells number (Call to callee arg) =
-    Went (record { frames = entered callee (length cells) ∷ top ∷ below; cells = cells ++ fresh_cells procs callee (value_of cells top.base arg) })
-executed procs top below cells number (Return value) = returns procs below cells (value_of cells top.base value)
+    Went (record { frames = entered callee (length cells) ∷ top ∷ below; cells = cells ++ fresh_cells procs callee (base_value cells top.base arg) })
+executed procs top below cells number (Return value) = returns procs below cells (base_value cells top.base value)
 
 -- the step of a state
 abbrev pub step_from : List Proc → List Frame → List Value → Outcome

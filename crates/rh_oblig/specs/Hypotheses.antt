@@ -17,10 +17,11 @@ use Rattle.rh_rule.specs.declared.rule.SideTerm.TheVariants.{Plain, Compute as A
 use Rattle.rh_rule.specs.declared.schema.Kind.{Kind}
 use Rattle.rh_rule.specs.declared.schema.Kind.TheVariants.{Var, Const}
 use Rattle.rh_rule.specs.declared.schema.Param.{Param}
+use Rattle.rh_rule.specs.Params.{kind_of}
 use Rattle.rh_rule.specs.declared.schema.Schema.{Schema}
 use Rattle.rh_term.specs.declared.term.Term.TheVariants.{Num, Any, Fresh, Answer, Before, After, Start, Yes}
 use Rattle.rh_oblig.specs.Tree.{Tree, Leaf, Select, Compute, Unheld}
-use Rattle.rh_oblig.specs.Literal.{TreeLit, TreeClause, equals, differs, pointer_tree, unheld_tree, binding_tree, kind_of}
+use Rattle.rh_oblig.specs.Literal.{TreeLit, TreeClause, equals, differs, pointer_tree, unheld_tree, binding_tree}
 use Rattle.rh_oblig.specs.Meaning.{fact_literals}
 use Rattle.rh_oblig.specs.Statement.{before, address, variable, value, step_literals}
 

@@ -5,3 +5,4 @@ pub mod Statement
 pub mod Hypotheses
 pub mod Goals
 pub mod TermList
+pub mod Valid

@@ -1,12 +1,12 @@
 -- Literals over trees, and the operands of a rule as trees.
-use Rattle.std.specs.Prelude.{ℕ, pos, Bool, true, false, List, [], ◌∷◌, Option, Some, None, slice_get, slice_index_or}
-use Rattle.std.specs.Option.{option_map_or}
+use Rattle.std.specs.Prelude.{ℕ, pos, Bool, true, false, List, [], ◌∷◌}
 use Rattle.rh_il.specs.declared.value.Op.{Op}
 use Rattle.rh_rule.specs.declared.rule.RuleBase.{RuleBase}
 use Rattle.rh_rule.specs.declared.rule.RuleBase.TheVariants.{Meta, Num as ANumber, Wild}
 use Rattle.rh_rule.specs.declared.schema.Kind.{Kind}
 use Rattle.rh_rule.specs.declared.schema.Kind.TheVariants.{Var as AVar, Const as AConst}
 use Rattle.rh_rule.specs.declared.schema.Param.{Param}
+use Rattle.rh_rule.specs.Params.{kind_of}
 use Rattle.rh_term.specs.declared.term.Term.TheVariants.{Num, Cst, Addr, Any, IsNum, IsPtr, Yes}
 use Rattle.rh_oblig.specs.Tree.{Tree, Leaf, Select, KindOf, Unheld}
 
@@ -34,10 +34,6 @@ pointer_tree tree = equals (KindOf tree) (Leaf IsPtr)
 
 abbrev pub unheld_tree : Tree → Tree → TreeLit
 unheld_tree store tree = equals (Unheld store tree) (Leaf Yes)
-
--- the kind of a metavariable
-abbrev pub kind_of : List Param → ℕ → Kind
-kind_of params meta = option_map_or (λ param. param.kind) (slice_get params meta) AConst
 
 -- the value of a metavariable of a kind: what the store holds at the variable, or the number
 abbrev pub value_tree : Tree → ℕ → Kind → Tree

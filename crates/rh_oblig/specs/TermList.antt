@@ -6,10 +6,11 @@ use Rattle.rh_il.specs.Op.{number_of}
 use Rattle.rh_rule.specs.declared.rule.Form.{Form}
 use Rattle.rh_rule.specs.declared.rule.Form.TheVariants.{Entry}
 use Rattle.rh_rule.specs.declared.schema.Param.{Param}
+use Rattle.rh_rule.specs.Params.{kind_of}
 use Rattle.rh_term.specs.declared.term.Term.{Term}
 use Rattle.rh_term.specs.declared.term.Term.TheVariants.{Num, Cst, Addr, Any, Fresh, Answer, Before, Start, Sel, Upd, Op as Computed, Kind, IsNum, IsPtr, Una, Yes}
 use Rattle.rh_oblig.specs.Tree.{Tree, Leaf, with_term, with_tree}
-use Rattle.rh_oblig.specs.Literal.{TreeLit, TreeClause, binding_tree, kind_of}
+use Rattle.rh_oblig.specs.Literal.{TreeLit, TreeClause, binding_tree}
 
 -- 0 and 1, the two kinds and `Yes`
 abbrev pub constant_terms : List Tree
