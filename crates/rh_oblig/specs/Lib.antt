@@ -5,4 +5,5 @@ pub mod Statement
 pub mod Hypotheses
 pub mod Goals
 pub mod TermList
+pub mod Obligation
 pub mod Valid

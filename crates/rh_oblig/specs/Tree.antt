@@ -1,6 +1,5 @@
 -- Terms as trees, and how they stand in a list in which each term names its parts by their places.
-use Rattle.std.specs.Prelude.{ℕ, ℤ, Bool, true, false, ◌==◌, ◌&&◌, List, [], ◌∷◌, ◌++◌, Option, Some, None, unwrap_or, if◌then◌else◌, length}
-use Rattle.std.specs.List.{position}
+use Rattle.std.specs.Prelude.{ℕ, suc, Bool, true, false, ◌==◌, ◌&&◌, List, [], ◌∷◌, ◌++◌, if◌then◌else◌, length}
 use Rattle.std.specs.Ordering.{int_eq}
 use Rattle.rh_il.specs.declared.value.Op.{Op}
 use Rattle.rh_term.specs.declared.term.Term.{Term}
@@ -39,7 +38,8 @@ term_eq _ _ = false
 
 -- the place of a term in the list, or the place behind the list
 abbrev pub place_of : List Term → Term → ℕ
-place_of terms term = unwrap_or (position (term_eq term) terms) (length terms)
+place_of [] term = 0
+place_of (listed ∷ terms) term = if term_eq listed term then 0 else suc (place_of terms term)
 
 -- the list, and the term behind it where it is not in it
 abbrev pub with_term : List Term → Term → List Term
