@@ -20,8 +20,8 @@ use Rattle.rh_oblig.specs.Literal.{TreeLit, TreeClause}
 use Rattle.rh_oblig.specs.Obligation.{lit_in, clauses_in}
 use Rattle.rh_oblig.specs.TermList.{literal_trees, clause_trees, first_trees, constant_terms, binding_terms, first_store, with_trees, closed, term_list}
 use Rattle.rh_oblig.specs.Valid.{is_true_in, are_true_in, IsValid}
-use Rattle.rh_oblig.proofs.Trees.{IsIn, stays_in}
-use Rattle.rh_oblig.proofs.Sorted.{IsSorted}
+use Rattle.rh_oblig.specs.Sorts.{IsIn, IsSorted}
+use Rattle.rh_oblig.proofs.Trees.{stays_in}
 use Rattle.rh_oblig.proofs.Closing.{Walked, with_trees_has, with_trees_list, closed_is}
 use Rattle.rh_oblig.proofs.Denotes.{Stands, clauses_denote, clauses_within, lit_denotes, lit_within}
 

@@ -15,8 +15,9 @@ use Rattle.rh_term.specs.Term.{is_value_term, is_store_term, is_at, HasParts, Ha
 use Rattle.rh_oblig.specs.Tree.{Tree, with_term, with_tree}
 use Rattle.rh_oblig.specs.TermList.{with_trees, folded, read_below, unheld_below, terms_from, walked, closed}
 use Rattle.rh_oblig.proofs.Places.{Extends, extends_itself, extends_further, with_term_has}
-use Rattle.rh_oblig.proofs.Trees.{IsIn, Has, stays_in, with_tree_has}
-use Rattle.rh_oblig.proofs.Sorted.{IsSorted, at_place, parts_here, parts_in, with_term_list, with_tree_list}
+use Rattle.rh_oblig.specs.Sorts.{IsIn, IsSorted}
+use Rattle.rh_oblig.proofs.Trees.{Has, stays_in, with_tree_has}
+use Rattle.rh_oblig.proofs.Sorted.{at_place, parts_here, parts_in, with_term_list, with_tree_list}
 
 -- ---- the trees of an obligation
 

@@ -20,8 +20,7 @@ use Rattle.rh_oblig.specs.Obligation.{lit_in, clause_in, clauses_in}
 use Rattle.rh_oblig.specs.TermList.{literal_trees, clause_trees}
 use Rattle.rh_oblig.specs.Valid.{denotation, is_true_in, are_true_in}
 use Rattle.rh_oblig.proofs.Places.{place_found}
-use Rattle.rh_oblig.proofs.Trees.{IsIn}
-use Rattle.rh_oblig.proofs.Sorted.{IsSorted}
+use Rattle.rh_oblig.specs.Sorts.{IsIn, IsSorted}
 
 -- a term without parts stands for the same whatever is known of others
 leaf_denotes : (model : Model) (known : List Denotation) (term : Term) → HasParts [] term → denotation_in model known term ≡ denotation_in model [] term

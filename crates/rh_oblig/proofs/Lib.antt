@@ -5,3 +5,4 @@ pub mod Sorted
 pub mod Closing
 pub mod Denotes
 pub mod Bridge
+pub mod Added

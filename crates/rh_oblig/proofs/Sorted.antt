@@ -1,37 +1,17 @@
 -- Trees of the right sorts keep lists of terms as they have to be.
-use Rattle.std.proofs.Common.{ℕ, zero, suc, ◌≡◌, ◌≢◌, ◌+◌, ◌<◌, ◌≤◌, Bool, true, false, ◌==◌, if◌then◌else◌, List, [], ◌∷◌, ◌++◌, length, take, drop, Option, Some, None, refl, ap, sym, subst, ◌∙◌, arith}
+use Rattle.std.proofs.Common.{ℕ, zero, suc, ◌≡◌, ◌≢◌, ◌+◌, ◌<◌, ◌≤◌, Bool, true, false, ◌==◌, if◌then◌else◌, List, [], ◌∷◌, ◌++◌, length, take, drop, Option, Some, None, refl, ap, sym, subst, ◌∙◌, arith, inl, inr, ◌⊎◌}
 use Rattle.std.proofs.lemmas.List.{take-append-drop}
 use Rattle.std.specs.Prelude.{slice_get, IsTrue}
 use Rattle.std.specs.Option.{option_map_or}
-use Rattle.std.proofs.lemmas.Bool.{eqb-true}
+use Rattle.std.proofs.lemmas.Bool.{eqb-true, eqb-false}
 use Rattle.rh_term.specs.declared.term.Term.{Term}
 use Rattle.rh_term.specs.declared.term.Term.TheVariants.{Num, Cst, Addr, Any, Fresh, Answer, Before, After, Start, Sel, Upd, Op as Computed, Kind, IsNum, IsPtr, Una, Yes}
-use Rattle.rh_term.specs.Term.{is_value_term, is_store_term, is_at, is_value_at, is_store_at, HasParts, HasNumber, IsTermList}
+use Rattle.rh_term.specs.Term.{is_value_term, is_store_term, is_at, is_value_at, is_store_at, HasParts, HasNumber, IsTermList, IsAdded}
 use Rattle.rh_term.proofs.Listed.{grown}
+use Rattle.rh_oblig.specs.Sorts.{IsIn, IsSorted, is_value_tree, is_store_tree}
 use Rattle.rh_oblig.specs.Tree.{Tree, Leaf, Select, Update, Compute, KindOf, Unheld, term_eq, place_of, tree_place, with_term, with_tree}
-use Rattle.rh_oblig.proofs.Places.{Extends, extends_further, place_found, place_longer, term_eq-refl, with_term_has}
-use Rattle.rh_oblig.proofs.Trees.{IsIn, Has, stays_in, place_same, with_tree_has}
-
-abbrev pub is_value_tree : Tree → Bool
-is_value_tree (Leaf term) = is_value_term term
-is_value_tree (Select store address) = true
-is_value_tree (Compute op left right) = true
-is_value_tree _ = false
-
-abbrev pub is_store_tree : Tree → Bool
-is_store_tree (Leaf term) = is_store_term term
-is_store_tree (Update store address value) = true
-is_store_tree _ = false
-
--- leaves have no parts, and parts are stores and values where they have to be
-abbrev pub IsSorted : Tree → Type 0
-IsSorted (Leaf term) = HasParts [] term × HasNumber term
-IsSorted (Select store address) = IsSorted store × IsSorted address × IsTrue (is_store_tree store) × IsTrue (is_value_tree address)
-IsSorted (Update store address value) =
-    IsSorted store × IsSorted address × IsSorted value × IsTrue (is_store_tree store) × IsTrue (is_value_tree address) × IsTrue (is_value_tree value)
-IsSorted (Compute op left right) = IsSorted left × IsSorted right × IsTrue (is_value_tree left) × IsTrue (is_value_tree right)
-IsSorted (KindOf value) = IsSorted value × IsTrue (is_value_tree value)
-IsSorted (Unheld store value) = IsSorted store × IsSorted value × IsTrue (is_store_tree store) × IsTrue (is_value_tree value)
+use Rattle.rh_oblig.proofs.Places.{Extends, extends_further, place_found, place_most, place_longer, term_eq-refl, with_term_has}
+use Rattle.rh_oblig.proofs.Trees.{Has, stays_in, place_same, with_tree_has}
 
 -- what a tree in a list is the head of stands at its place
 pub at_place : (test : Term → Bool) (terms : List Term) (place : ℕ) (term : Term) → slice_get terms place ≡ Some term → test term ≡ true → is_at test terms place ≡ true
@@ -183,3 +163,35 @@ with_tree_list terms (Unheld store value) list sorted =
     let store_in : IsIn parts store = stays_in stored parts store second.grown first.is_in in
     with_term_list parts (Una (tree_place parts store) (tree_place parts value)) (with_tree_list stored value (with_tree_list terms store list sorted.0) sorted.1)
     (store_at_place parts store store_in sorted.2, value_at_place parts value second.is_in sorted.3) tt
+
+-- ---- one more term, as the list of the code takes it
+
+-- a number is below another or not
+below_or_not : (a b : ℕ) → (a < b) ⊎ (b ≤ a)
+below_or_not zero zero = inr (omega arith)
+below_or_not zero (suc b) = inl (omega arith)
+below_or_not (suc a) zero = inr (omega arith)
+below_or_not (suc a) (suc b) = elim (below_or_not a b) [ inl h ↦ inl (omega arith) | inr h ↦ inr (omega arith) ]
+
+added_cases : (test : Bool) (old new : List Term) (term : Term) (place : ℕ) → (place_of old term == length old) ≡ test → IsTermList new → IsAdded old new term place
+    → new ≡ (if test then old ++ term ∷ [] else old)
+added_cases true old new term place e list is_added =
+    elim (below_or_not place (length old)) [
+      | inl before ↦ absurd (absent old term (eqb-true (place_of old term) (length old) e) place (subst (λ (t : List Term). slice_get t place ≡ Some term) (is_added.was_there before) is_added.stands))
+      | inr after ↦ is_added.was_new after
+    ]
+added_cases false old new term place e list is_added =
+    elim (below_or_not place (length old)) [
+      | inl before ↦ is_added.was_there before
+      | inr after ↦
+          let most = place_most old term in
+          let ne = eqb-false (place_of old term) (length old) e in
+          let within : place_of old term < length old = omega arith in
+          let stands : slice_get new (place_of old term) ≡ Some term =
+          subst (λ (t : List Term). slice_get t (place_of old term) ≡ Some term) (sym (is_added.was_new after)) (get_longer old (term ∷ []) (place_of old term) term (place_found old term within)) in
+          let one : place_of old term ≡ place = list.different (place_of old term) place term stands is_added.stands in
+          absurd (omega arith)
+    ]
+
+pub added_term : (old new : List Term) (term : Term) (place : ℕ) → IsTermList new → IsAdded old new term place → new ≡ with_term old term
+added_term old new term place list is_added = added_cases (place_of old term == length old) old new term place refl list is_added

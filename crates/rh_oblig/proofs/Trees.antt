@@ -4,18 +4,9 @@ use Rattle.std.specs.Prelude.{slice_get, fold}
 use Rattle.std.proofs.lemmas.List.{length-append}
 use Rattle.rh_term.specs.declared.term.Term.{Term}
 use Rattle.rh_term.specs.declared.term.Term.TheVariants.{Sel, Upd, Op as Computed, Kind, Una}
+use Rattle.rh_oblig.specs.Sorts.{IsIn}
 use Rattle.rh_oblig.specs.Tree.{Tree, Leaf, Select, Update, Compute, KindOf, Unheld, place_of, tree_place, with_term, with_tree}
 use Rattle.rh_oblig.proofs.Places.{Extends, extends_itself, extends_further, place_longer, with_term_has}
-
--- the tree and its parts stand in the list
-abbrev pub IsIn : List Term → Tree → Type 0
-IsIn terms (Leaf term) = place_of terms term < length terms
-IsIn terms (Select store address) = IsIn terms store × IsIn terms address × (tree_place terms (Select store address) < length terms)
-IsIn terms (Update store address value) =
-    IsIn terms store × IsIn terms address × IsIn terms value × (tree_place terms (Update store address value) < length terms)
-IsIn terms (Compute op left right) = IsIn terms left × IsIn terms right × (tree_place terms (Compute op left right) < length terms)
-IsIn terms (KindOf value) = IsIn terms value × (tree_place terms (KindOf value) < length terms)
-IsIn terms (Unheld store value) = IsIn terms store × IsIn terms value × (tree_place terms (Unheld store value) < length terms)
 
 -- a tree keeps its place where the list grows
 pub place_stays : (terms more : List Term) (tree : Tree) → IsIn terms tree → tree_place (terms ++ more) tree ≡ tree_place terms tree

@@ -53,12 +53,12 @@ is_var Const = false
 abbrev pub var_metas : List Param → List ℕ
 var_metas params = filter (λ meta. is_var (kind_of params meta)) (range_with_len 0 (length params))
 
--- what a new cell is: no cell holds the pointer to it, it holds 0, and it is no variable
-abbrev pub new_clauses : List Param → List TreeClause
-new_clauses params =
+-- what a new cell is: no cell holds the pointer to it, it holds 0, and it is none of the variables
+abbrev pub new_clauses : List ℕ → List TreeClause
+new_clauses metas =
     (pointer_tree (Leaf Fresh) ∷ []) ∷ (unheld_tree before (Leaf Fresh) ∷ [])
     ∷ (equals (Select before (Leaf Fresh)) (Leaf (Num (pos 0))) ∷ [])
-    ∷ map (λ meta. differs (Leaf Fresh) (address meta) ∷ []) (var_metas params)
+    ∷ map (λ meta. differs (Leaf Fresh) (address meta) ∷ []) metas
 
 -- what a call leaves of a variable to which no cell pointed: its value, that no cell points to it, and
 -- that the answer does not either
@@ -69,21 +69,21 @@ call_clauses_of meta =
     ∷ (escaped ∷ unheld_tree (Leaf After) (address meta) ∷ [])
     ∷ (escaped ∷ differs (Leaf Answer) (address meta) ∷ []) ∷ []
 
-abbrev pub call_clauses : List Param → List TreeClause
-call_clauses params = flat_map call_clauses_of (var_metas params)
+-- a local is 0: it is the parameter, or holds 0
+abbrev pub local_clause : ℕ → ℕ → TreeClause
+local_clause param meta = equals (address meta) (address param) ∷ equals (Select (Leaf Start) (address meta)) (Leaf (Num (pos 0))) ∷ []
 
 -- what a procedure begins with: no cell points to its variables, and its locals are 0
-abbrev pub entry_clauses : List Param → ℕ → List TreeClause
-entry_clauses params param =
-    map (λ meta. unheld_tree (Leaf Start) (address meta) ∷ []) (var_metas params)
-    ++ map (λ meta. equals (address meta) (address param) ∷ equals (Select (Leaf Start) (address meta)) (Leaf (Num (pos 0))) ∷ [])
-    (filter (λ meta. not (meta == param)) (var_metas params))
+abbrev pub entry_clauses : List ℕ → ℕ → List TreeClause
+entry_clauses metas param =
+    map (λ meta. unheld_tree (Leaf Start) (address meta) ∷ []) metas
+    ++ map (local_clause param) (filter (λ meta. not (meta == param)) metas)
 
 -- what the form of the statement says of its own, in a propagation rule
 abbrev pub own_clauses : List Param → Form → List TreeClause
-own_clauses params (New to) = new_clauses params
-own_clauses params (Call to arg) = call_clauses params
-own_clauses params (Entry param) = entry_clauses params param
+own_clauses params (New to) = new_clauses (var_metas params)
+own_clauses params (Call to arg) = flat_map call_clauses_of (var_metas params)
+own_clauses params (Entry param) = entry_clauses (var_metas params) param
 own_clauses params _ = []
 
 -- one clause for each literal

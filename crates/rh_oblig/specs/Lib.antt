@@ -7,3 +7,5 @@ pub mod Goals
 pub mod TermList
 pub mod Obligation
 pub mod Valid
+pub mod View
+pub mod Sorts

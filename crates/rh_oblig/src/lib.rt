@@ -1,2 +1,11 @@
 //! What has to be shown of a rule: its obligations.
 #![tactic(auto)]
+
+mod goals;
+mod hypotheses;
+mod list;
+mod literal;
+mod meaning;
+mod own;
+mod statement;
+mod tree;
