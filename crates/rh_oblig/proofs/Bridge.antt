@@ -22,7 +22,7 @@ use Rattle.rh_oblig.specs.TermList.{literal_trees, clause_trees, first_trees, co
 use Rattle.rh_oblig.specs.Valid.{is_true_in, are_true_in, IsValid}
 use Rattle.rh_oblig.specs.Sorts.{IsIn, IsSorted}
 use Rattle.rh_oblig.proofs.Trees.{stays_in}
-use Rattle.rh_oblig.proofs.Closing.{Walked, with_trees_has, with_trees_list, closed_is}
+use Rattle.rh_oblig.proofs.Walks.{Walked, with_trees_has, with_trees_list, closed_is}
 use Rattle.rh_oblig.proofs.Denotes.{Stands, clauses_denote, clauses_within, lit_denotes, lit_within}
 
 -- axioms over a list of terms: within the list, and true in every model

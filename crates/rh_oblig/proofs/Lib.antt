@@ -2,7 +2,7 @@ mod AddZero
 pub mod Places
 pub mod Trees
 pub mod Sorted
-pub mod Closing
+pub mod Walks
 pub mod Denotes
 pub mod Bridge
 pub mod Added

@@ -1,5 +1,6 @@
 -- Trees of the right sorts, and trees that stand in a list.
 use Rattle.std.specs.Prelude.{ℕ, ◌<◌, Bool, true, false, IsTrue, List, [], length}
+use Rattle.std.specs.List.{AllByRecursion}
 use Rattle.rh_term.specs.declared.term.Term.{Term}
 use Rattle.rh_term.specs.Term.{is_value_term, is_store_term, HasParts, HasNumber}
 use Rattle.rh_oblig.specs.Tree.{Tree, Leaf, Select, Update, Compute, KindOf, Unheld, place_of, tree_place}
@@ -34,3 +35,7 @@ IsIn terms (Update store address value) =
 IsIn terms (Compute op left right) = IsIn terms left × IsIn terms right × (tree_place terms (Compute op left right) < length terms)
 IsIn terms (KindOf value) = IsIn terms value × (tree_place terms (KindOf value) < length terms)
 IsIn terms (Unheld store value) = IsIn terms store × IsIn terms value × (tree_place terms (Unheld store value) < length terms)
+
+-- terms whose parts stand in the list, and whose numbers are of 64 bits
+abbrev pub AreFit : List Term → List Term → Type 0
+AreFit terms others = AllByRecursion (λ other. HasParts terms other × HasNumber other) others

@@ -1,6 +1,7 @@
 //! What has to be shown of a rule: its obligations.
 #![tactic(auto)]
 
+mod closing;
 mod goals;
 mod hypotheses;
 mod list;

@@ -1,10 +1,11 @@
 -- The list with all terms to which its terms lead.
-use Rattle.std.proofs.Common.{ℕ, zero, suc, ◌≡◌, ◌+◌, ◌*◌, Bool, true, false, List, [], ◌∷◌, ◌++◌, length, Option, Some, None, refl, ap, sym, subst, ◌∙◌, rules}
+use Rattle.std.proofs.Common.{ℕ, zero, suc, ◌≡◌, ◌+◌, ◌*◌, Bool, true, false, List, [], ◌∷◌, ◌++◌, length, drop, get_or, add-one, arith, ◌<◌, ◌-◌, Option, Some, None, refl, ap, sym, subst, ◌∙◌, rules}
 use Rattle.std.specs.Prelude.{slice_get, fold, ℤ, ◌+ℤ◌, ◌-ℤ◌, ◌*ℤ◌, int_lt}
 use Rattle.std.specs.Ordering.{int_eq}
 use mir.Syntax.{w64}
 use Rattle.std.specs.List.{AllByRecursion}
 use Rattle.std.proofs.lemmas.Int.{SFits-int_wrap}
+use Rattle.std.proofs.Math.Seq.{drop-cons}
 use Rattle.rh_il.specs.declared.value.Op.{Op as Operator}
 use Rattle.rh_il.specs.declared.value.Op.TheVariants.{Add, Sub, Mul, Less, Equal}
 use Rattle.rh_il.specs.Op.{number_of, truth}
@@ -15,7 +16,7 @@ use Rattle.rh_term.specs.Term.{is_value_term, is_store_term, is_at, HasParts, Ha
 use Rattle.rh_oblig.specs.Tree.{Tree, with_term, with_tree}
 use Rattle.rh_oblig.specs.TermList.{with_trees, folded, read_below, unheld_below, terms_from, walked, closed}
 use Rattle.rh_oblig.proofs.Places.{Extends, extends_itself, extends_further, with_term_has}
-use Rattle.rh_oblig.specs.Sorts.{IsIn, IsSorted}
+use Rattle.rh_oblig.specs.Sorts.{AreFit, IsIn, IsSorted}
 use Rattle.rh_oblig.proofs.Trees.{Has, stays_in, with_tree_has}
 use Rattle.rh_oblig.proofs.Sorted.{at_place, parts_here, parts_in, with_term_list, with_tree_list}
 
@@ -37,10 +38,6 @@ with_trees_list terms [] list sorted = list
 with_trees_list terms (tree ∷ trees) list sorted = with_trees_list (with_tree terms tree) trees (with_tree_list terms tree list sorted.0) sorted.1
 
 -- ---- the terms to which terms lead
-
--- terms whose parts stand in the list, and whose numbers are of 64 bits
-abbrev AreFit : List Term → List Term → Type 0
-AreFit terms others = AllByRecursion (λ other. HasParts terms other × HasNumber other) others
 
 truth_fits : (b : Bool) → IsNumber (truth b)
 truth_fits true = search rules
@@ -102,7 +99,7 @@ from_fits terms place IsPtr list stands = tt
 from_fits terms place Yes list stands = tt
 
 -- they stay so where the list grows
-fits_longer : (old new : List Term) (others : List Term) → Extends old new → AreFit old others → AreFit new others
+pub fits_longer : (old new : List Term) (others : List Term) → Extends old new → AreFit old others → AreFit new others
 fits_longer old new [] grown fits = tt
 fits_longer old new (other ∷ others) grown fits = ((parts_in old new other grown fits.0.0, fits.0.1), fits_longer old new others grown fits.1)
 
@@ -138,3 +135,41 @@ walked_is (suc turns) terms place list = walked_step turns (walked_is turns) ter
 
 pub closed_is : (terms : List Term) → IsTermList terms → Walked terms (closed terms)
 closed_is terms list = walked_is (4 * length terms) terms 0 list
+
+-- ---- the walk of the code, turn by turn
+
+pub walked_none : (turns : ℕ) (terms : List Term) (place : ℕ) → slice_get terms place ≡ None → walked turns terms place ≡ terms
+walked_none zero terms place none = refl
+walked_none (suc turns) terms place none =
+    ap (λ at. elim at as (λ _. List Term) [ None ↦ terms | Some term ↦ walked turns (fold with_term terms (terms_from terms place term)) (place + 1) ]) none
+
+pub walked_some : (turns : ℕ) (terms : List Term) (place : ℕ) (term : Term) → slice_get terms place ≡ Some term
+    → walked (suc turns) terms place ≡ walked turns (fold with_term terms (terms_from terms place term)) (place + 1)
+walked_some turns terms place term stands =
+    ap (λ at. elim at as (λ _. List Term) [ None ↦ terms | Some term ↦ walked turns (fold with_term terms (terms_from terms place term)) (place + 1) ]) stands
+
+-- one of the terms to which another leads is put behind the list
+pub record AddsOne (old new others : List Term) (i : ℕ) : Type 0 where
+  pub rest : fold with_term new (drop (i + 1) others) ≡ fold with_term old (drop i others)
+  pub fit : AreFit new (drop (i + 1) others)
+
+adds_one : (old new rest all : List Term) (other : Term) → all ≡ other ∷ rest → new ≡ with_term old other → AreFit old all
+    → (fold with_term new rest ≡ fold with_term old all) × AreFit new rest
+adds_one old new rest all other is added fit =
+    let fits : AreFit old (other ∷ rest) = subst (AreFit old) is fit in (
+      ap (λ t. fold with_term t rest) added ∙ ap (fold with_term old) (sym is),
+      fits_longer old new rest (subst (Extends old) (sym added) (with_term_has old other).0) fits.1,
+    )
+
+pub add_step : (old new others : List Term) (i : ℕ) (d : Term) → i < length others → new ≡ with_term old (get_or others i d) → AreFit old (drop i others) → AddsOne old new others i
+add_step old new others i d within added fit =
+    let cut : drop i others ≡ get_or others i d ∷ drop (i + 1) others = drop-cons others i d within ∙ ap (λ n. get_or others i d ∷ drop n others) (sym (add-one i)) in
+    let both = adds_one old new (drop (i + 1) others) (drop i others) (get_or others i d) cut added fit in
+    record { rest = both.0; fit = both.1 }
+
+-- one turn of the walk
+pub walk_step : (turns : ℕ) (old new : List Term) (place : ℕ) (term : Term) → place < turns → slice_get old place ≡ Some term → new ≡ fold with_term old (terms_from old place term)
+    → walked (turns - (place + 1)) new (place + 1) ≡ walked (turns - place) old place
+walk_step turns old new place term within stands is =
+    let left : turns - place ≡ suc (turns - (place + 1)) = omega arith in
+    ap (λ t. walked (turns - (place + 1)) t (place + 1)) is ∙ sym (ap (λ n. walked n old place) left ∙ walked_some (turns - (place + 1)) old place term stands)
