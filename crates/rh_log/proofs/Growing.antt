@@ -1,6 +1,6 @@
 -- A child more.
-use Rattle.std.proofs.Common.{◌≡◌, ℕ, ◌<◌, ◌≤◌, ◌+◌, ◌-◌, Bool, true, List, [], ◌∷◌, ◌++◌, length, drop, get_or, arith, refl, ap, sym, subst, ◌∙◌}
-use Rattle.std.specs.List.{filter, AllZip}
+use Rattle.std.proofs.Common.{◌≡◌, ℕ, ◌<◌, ◌≤◌, ◌+◌, ◌-◌, Bool, true, List, ◌∷◌, length, drop, get_or, arith, ap, sym, subst, ◌∙◌}
+use Rattle.std.specs.List.{filter}
 use Rattle.std.proofs.lemmas.Bool.{cond-true}
 use Rattle.std.proofs.lemmas.List.{drop_more}
 use Rattle.rh_classes.specs.Merge.{IsMerge}
@@ -20,8 +20,10 @@ grown terms labels lits at d old now new child some within equation merge grows 
     let lit = get_or lits (at - 1) d in
     let rest : at - 1 + 1 ≡ at = omega arith in
     let step : drop (at - 1) lits ≡ lit ∷ drop at lits
-      = drop_more lits (at - 1) d (omega arith) ∙ ap (λ i. lit ∷ drop i lits) rest in
+    = drop_more lits (at - 1) d (omega arith) ∙ ap (λ i. lit ∷ drop i lits) rest in
     let kept : filter is_equation (drop (at - 1) lits) ≡ lit ∷ filter is_equation (drop at lits)
-      = ap (filter is_equation) step ∙ cond-true lit.equal (lit ∷ filter is_equation (drop at lits)) (filter is_equation (drop at lits)) equation in
-    (omega arith, subst (λ equations. Grows terms labels equations old new) (sym kept)
-      (child ∷ grows.0, (merge, grows.1), e ∙ ap (λ xs. child ∷ xs) grows.2))
+    = ap (filter is_equation) step ∙ cond-true lit.equal (lit ∷ filter is_equation (drop at lits)) (filter is_equation (drop at lits)) equation in (
+      omega arith,
+      subst (λ equations. Grows terms labels equations old new) (sym kept)
+          (child ∷ grows.0, (merge, grows.1), e ∙ ap (λ xs. child ∷ xs) grows.2),
+    )

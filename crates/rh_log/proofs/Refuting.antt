@@ -1,18 +1,18 @@
 -- Where a tree is closed, no partition is open.
-use Rattle.std.proofs.Common.{◌≡◌, ℕ, zero, suc, ◌<◌, Bool, true, false, ◌||◌, IsTrue, List, [], ◌∷◌, ◌++◌, Some, length, slice_get, arith, refl, ap, sym, subst, ◌∙◌, ◌⊎◌, inl, inr}
-use Rattle.std.specs.Prelude.{not, if◌then◌else◌, nat_lt}
+use Rattle.std.proofs.Common.{◌≡◌, ℕ, zero, suc, Bool, true, false, List, [], ◌∷◌, ◌++◌, Some, length, slice_get, sym, subst, ◌∙◌, ◌⊎◌, inl, inr}
+use Rattle.std.specs.Prelude.{not, nat_lt}
 use Rattle.std.specs.List.{AllZip, filter, list_any, list_all}
 use Rattle.std.specs.Option.{option_map_or}
 use Rattle.std.proofs.lemmas.Bool.{cases_Bool, and_parts, or_parts, or_cases, both_ways, cond-true, cond-false, not-true, not-false, ltb-true}
-use Rattle.rh_classes.specs.Merge.{IsMerge, Refines, Joins, alone}
+use Rattle.rh_classes.specs.Merge.{IsMerge, Refines}
 use Rattle.rh_classes.proofs.Alone.{alone_least}
 use Rattle.rh_term.specs.declared.clause.Lit.{Lit}
 use Rattle.rh_term.specs.declared.clause.Clause.{Clause}
 use Rattle.rh_term.specs.declared.term.Term.{Term}
-use Rattle.rh_term.specs.Clause.{Sameness, is_true_lit, is_true_clause, are_true, is_within, are_within}
-use Rattle.rh_term.specs.Partition.{IsOpen, IsPartition, joined, HasNoOpenPartition}
+use Rattle.rh_term.specs.Clause.{Sameness, is_true_lit, is_true_clause, is_within, are_within}
+use Rattle.rh_term.specs.Partition.{IsOpen, joined, HasNoOpenPartition}
 use Rattle.rh_log.specs.declared.log.LogNode.{LogNode}
-use Rattle.rh_log.specs.Tree.{LeadsTo, Expands, IsFalseAt, IsClosedTree, equations, is_false_at, root}
+use Rattle.rh_log.specs.Tree.{LeadsTo, Expands, IsFalseAt, IsClosedTree, root}
 
 -- the clause at a place of a list, of which a test holds throughout
 pub clause_passes : (test : Clause → Bool) (clauses : List Clause) (place : ℕ) (clause : Clause) → slice_get clauses place ≡ Some clause
@@ -22,7 +22,7 @@ clause_passes test (x ∷ xs) zero clause e h = let same : x ≡ clause = cc in 
 clause_passes test (x ∷ xs) (suc place) clause e h = clause_passes test xs place clause e (and_parts (test x) (list_all test xs) h).1
 
 -- an equation is true where its terms are one, and an inequation where they are not
-equation_true : (same : Sameness) (lit : Lit) → lit.equal ≡ true → is_true_lit same lit ≡ same lit.left lit.right
+pub equation_true : (same : Sameness) (lit : Lit) → lit.equal ≡ true → is_true_lit same lit ≡ same lit.left lit.right
 equation_true same lit e = cond-true lit.equal (same lit.left lit.right) (not (same lit.left lit.right)) e
 
 inequation_true : (same : Sameness) (lit : Lit) → lit.equal ≡ false → is_true_lit same lit ≡ not (same lit.left lit.right)
@@ -57,9 +57,9 @@ module _ (terms : List Term) (clauses : List Clause) (open' : List ℕ) (is_open
     still_false lit within e falsehood t =
         let places = and_parts (nat_lt lit.left (length terms)) (nat_lt lit.right (length terms)) within in
         let together : joined labels lit.left lit.right ≡ true
-          = not-false (joined labels lit.left lit.right) (sym (inequation_true (joined labels) lit e) ∙ falsehood) in
+        = not-false (joined labels lit.left lit.right) (sym (inequation_true (joined labels) lit e) ∙ falsehood) in
         let separate : joined open' lit.left lit.right ≡ false
-          = not-true (joined open' lit.left lit.right) (sym (inequation_true (joined open') lit e) ∙ t) in
+        = not-true (joined open' lit.left lit.right) (sym (inequation_true (joined open') lit e) ∙ t) in
         both_ways (joined open' lit.left lit.right) separate
         (refines lit.left lit.right (ltb-true lit.left (length terms) places.0) (ltb-true lit.right (length terms) places.1) together)
 
@@ -81,23 +81,28 @@ module _ (terms : List Term) (clauses : List Clause) (open' : List ℕ) (is_open
         let parts = and_parts (is_within (length terms) lit) (list_all (is_within (length terms)) lits) within in
         let falsity = or_parts (is_true_lit (joined labels) lit) (list_any (is_true_lit (joined labels)) lits) falsehood in
         elim (cases_Bool lit.equal) [
-          inl e ↦ with_equation lit lits [] e zip
-        | inr e ↦ elim (or_cases (is_true_lit (joined open') lit) (list_any (is_true_lit (joined open')) lits) t) [
-            inl h ↦ still_false lit parts.0 e falsity.0 h
-          | inr h ↦ some_child lits [] parts.1 falsity.1 h (without lit lits [] e zip) ] ]
+          | inl e ↦ with_equation lit lits [] e zip
+          | inr e ↦ elim (or_cases (is_true_lit (joined open') lit) (list_any (is_true_lit (joined open')) lits) t) [
+            | inl h ↦ still_false lit parts.0 e falsity.0 h
+            | inr h ↦ some_child lits [] parts.1 falsity.1 h (without lit lits [] e zip)
+          ]
+        ]
     some_child (lit ∷ lits) (child ∷ children) within falsehood t zip =
         let parts = and_parts (is_within (length terms) lit) (list_all (is_within (length terms)) lits) within in
         let falsity = or_parts (is_true_lit (joined labels) lit) (list_any (is_true_lit (joined labels)) lits) falsehood in
         let either = or_cases (is_true_lit (joined open') lit) (list_any (is_true_lit (joined open')) lits) t in
         elim (cases_Bool lit.equal) [
-          inl e ↦
-            let zip' = with_equation lit lits (child ∷ children) e zip in
-            elim either [
-              inl h ↦ inl (merged_refines lit child zip'.0 (sym (equation_true (joined open') lit e) ∙ h))
-            | inr h ↦ inr (some_child lits children parts.1 falsity.1 h zip'.1) ]
-        | inr e ↦ elim either [
-            inl h ↦ absurd (still_false lit parts.0 e falsity.0 h)
-          | inr h ↦ some_child lits (child ∷ children) parts.1 falsity.1 h (without lit lits (child ∷ children) e zip) ] ]
+          | inl e ↦
+              let zip' = with_equation lit lits (child ∷ children) e zip in
+              elim either [
+                | inl h ↦ inl (merged_refines lit child zip'.0 (sym (equation_true (joined open') lit e) ∙ h))
+                | inr h ↦ inr (some_child lits children parts.1 falsity.1 h zip'.1)
+              ]
+          | inr e ↦ elim either [
+            | inl h ↦ absurd (still_false lit parts.0 e falsity.0 h)
+            | inr h ↦ some_child lits (child ∷ children) parts.1 falsity.1 h (without lit lits (child ∷ children) e zip)
+          ]
+        ]
 
   module _ (within : are_within (length terms) clauses ≡ true) where
     -- a node leads from a partition that lies within the open one to a child that does
@@ -106,8 +111,8 @@ module _ (terms : List Term) (clauses : List Clause) (open' : List ℕ) (is_open
     some_leads labels node children leads refines =
         let clause = leads.clause in
         let falsehood : is_true_clause (joined labels) clause ≡ false
-          = not-true (is_true_clause (joined labels) clause)
-            (subst (λ found. option_map_or (λ c. not (is_true_clause (joined labels) c)) found false ≡ true) leads.clause_at leads.picked) in
+        = not-true (is_true_clause (joined labels) clause)
+        (subst (λ found. option_map_or (λ c. not (is_true_clause (joined labels) c)) found false ≡ true) leads.clause_at leads.picked) in
         some_child labels refines clause.lits children
         (clause_passes (λ c. list_all (is_within (length terms)) c.lits) clauses node.clause clause leads.clause_at within) falsehood
         (clause_passes (is_true_clause (joined open')) clauses node.clause clause leads.clause_at is_open.all_true) leads.merged
@@ -118,8 +123,9 @@ module _ (terms : List Term) (clauses : List Clause) (open' : List ℕ) (is_open
     never_closed (node ∷ nodes) (labels ∷ branches) some h =
         never_closed nodes (h.0 ++ branches)
         (elim some [
-          inl refines ↦ left_of h.0 branches (some_leads labels node h.0 h.1 refines)
-        | inr r ↦ right_of h.0 branches r ]) h.2
+          | inl refines ↦ left_of h.0 branches (some_leads labels node h.0 h.1 refines)
+          | inr r ↦ right_of h.0 branches r
+        ]) h.2
 
 pub closed_refutes : (terms : List Term) (clauses : List Clause) (nodes : List LogNode) → are_within (length terms) clauses ≡ true
     → IsClosedTree terms clauses nodes → HasNoOpenPartition terms clauses

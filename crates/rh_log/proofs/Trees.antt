@@ -1,13 +1,13 @@
 -- Where a tree leads is determined by its nodes.
-use Rattle.std.proofs.Common.{◌≡◌, ℕ, zero, suc, ◌<◌, ◌≤◌, ◌+◌, true, IsTrue, List, [], ◌∷◌, ◌++◌, Some, length, slice_get, slice_index, get_or, drop, arith, refl, ap, sym, subst, ◌∙◌}
-use Rattle.std.specs.List.{All, AllZip}
+use Rattle.std.proofs.Common.{◌≡◌, ℕ, ◌<◌, ◌≤◌, List, [], ◌∷◌, ◌++◌, Some, length, slice_index, arith, refl, ap, sym, subst, ◌∙◌}
+use Rattle.std.specs.List.{AllZip}
 use Rattle.std.proofs.lemmas.Grind.{same_number_lists}
-use Rattle.rh_classes.specs.Merge.{IsMerge, Refines, Joins}
-use Rattle.rh_classes.proofs.Joining.{joined-equal, equal-joined, label_within, joined_label}
+use Rattle.rh_classes.specs.Merge.{IsMerge, Refines}
+use Rattle.rh_classes.proofs.Joining.{joined-equal, label_within, joined_label}
 use Rattle.rh_term.specs.declared.clause.Lit.{Lit}
 use Rattle.rh_term.specs.declared.clause.Clause.{Clause}
 use Rattle.rh_term.specs.declared.term.Term.{Term}
-use Rattle.rh_term.specs.Partition.{IsPartition, joined}
+use Rattle.rh_term.specs.Partition.{IsPartition}
 use Rattle.rh_log.specs.declared.log.LogNode.{LogNode}
 use Rattle.rh_log.specs.Tree.{LeadsTo, Expands, equations}
 use Rattle.rh_log.specs.Branch.{Follows, CannotFollow}
@@ -18,14 +18,14 @@ lesser : (n : ℕ) (fine coarse : List ℕ) → IsPartition n fine → IsPartiti
 lesser n fine coarse part part' refines k h =
     let within : slice_index fine k < n = label_within n fine part k h in
     let e : slice_index coarse k ≡ slice_index coarse (slice_index fine k)
-      = joined-equal coarse k (slice_index fine k) (refines k (slice_index fine k) h within (joined_label n fine part k h)) in
+    = joined-equal coarse k (slice_index fine k) (refines k (slice_index fine k) h within (joined_label n fine part k h)) in
     omega (arith, e, part'.least (slice_index fine k) within)
 
 pub same_partition : (n : ℕ) (a b : List ℕ) → IsPartition n a → IsPartition n b → Refines n a b → Refines n b a → a ≡ b
 same_partition n a b part part' forth back =
     same_number_lists a b (part.as_long ∙ sym part'.as_long)
     (λ k h. let within : k < n = omega (arith, h, part.as_long) in
-      omega (arith, lesser n a b part part' forth k within, lesser n b a part' part back k within))
+    omega (arith, lesser n a b part part' forth k within, lesser n b a part' part back k within))
 
 -- a merge has one outcome
 pub merge_unique : (terms : List Term) (old : List ℕ) (a b : ℕ) (x y : List ℕ) → IsMerge terms old a b x → IsMerge terms old a b y → x ≡ y
@@ -58,9 +58,9 @@ module _ (picks : List ℕ → ℕ → Type 0) (terms : List Term) (clauses : Li
       → Follows picks terms clauses node old new → Expands picks terms clauses old (node ∷ nodes) left → Expands picks terms clauses new nodes left
   forward old new node nodes left step h =
       let g : Expands picks terms clauses (step.labels ∷ step.rest) (node ∷ nodes) left
-        = subst (λ branches. Expands picks terms clauses branches (node ∷ nodes) left) step.first h in
+      = subst (λ branches. Expands picks terms clauses branches (node ∷ nodes) left) step.first h in
       let same : g.0 ++ step.rest ≡ new
-        = ap (λ children. children ++ step.rest) (leads_unique step.labels node g.0 step.children g.1 step.leads) ∙ sym step.replaced in
+      = ap (λ children. children ++ step.rest) (leads_unique step.labels node g.0 step.children g.1 step.leads) ∙ sym step.replaced in
       subst (λ branches. Expands picks terms clauses branches nodes left) same g.2
 
   pub backward : (old new : List (List ℕ)) (node : LogNode) (nodes : List LogNode) (left : List (List ℕ))

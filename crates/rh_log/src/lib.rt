@@ -7,16 +7,12 @@
 
 mod branch;
 mod checker;
-
 mod log;
 mod open;
-
 mod truth;
 
 pub use branch::expand;
 pub use checker::{check, root};
-
 pub use log::{Log, LogNode};
-
 pub use open::is_open;
 pub use truth::{is_true, width};

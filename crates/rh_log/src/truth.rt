@@ -17,12 +17,21 @@ fn is_true_lit(labels: &[u32], lit: Lit) -> bool
 pub fn is_true(labels: &[u32], clause: &Clause) -> bool
     ensures { result ≡ is_true_clause (joined labels.now) clause.now }
 {
-    clause.lits.as_slice().iter().any(|lit| is_true_lit(labels, *lit))
+    clause
+        .lits
+        .as_slice()
+        .iter()
+        .any(|lit| is_true_lit(labels, *lit))
 }
 
 /// How many equations the clause has.
 pub fn width(clause: &Clause) -> usize
     ensures { result ≡ width clause.now }
 {
-    clause.lits.as_slice().iter().filter(|lit| lit.equal).count()
+    clause
+        .lits
+        .as_slice()
+        .iter()
+        .filter(|lit| lit.equal)
+        .count()
 }
