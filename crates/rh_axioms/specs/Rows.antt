@@ -162,6 +162,10 @@ unheld_after terms place term =
 
 -- ---- tables
 
+-- all the schemas in order
+abbrev pub all_schemas : List Axiom
+all_schemas = A1 ∷ A2 ∷ A3 ∷ A4 ∷ A5 ∷ A6 ∷ A7 ∷ A8 ∷ A9 ∷ A10 ∷ A11 ∷ A12 ∷ A13 ∷ A14 ∷ A15 ∷ A16 ∷ A17 ∷ A18 ∷ A19 ∷ A20 ∷ A21 ∷ A22 ∷ A23 ∷ A24 ∷ []
+
 -- what a schema gives for one term of the list, with its place
 abbrev pub single : Axiom → List Term → ℕ → Term → Option Instance
 single A1 = read_back

@@ -3,12 +3,18 @@
 
 
 mod instance;
+mod laws;
 mod listing;
 mod kinds;
 mod parts;
 mod rows;
+mod standard_table;
 mod table;
+#[cfg(test)]
+mod tests;
 
 
+pub use laws::schemas_hold;
 pub use listing::instances;
-pub use table::{Axiom, Table, standard};
+pub use standard_table::standard;
+pub use table::{Axiom, Table};

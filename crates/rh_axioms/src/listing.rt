@@ -1,5 +1,6 @@
 //! The instances of a table over a list of terms.
-ghost use Rattle.std.specs.Prelude.{◌≡◌, ◌++◌, ◌≤◌, ◌<◌, ◌^◌, length, IfOk};
+ghost use Rattle.std.specs.Prelude.{◌≡◌, ◌++◌, ◌≤◌, ◌<◌, ◌^◌, length, IfOk, IsTrue};
+ghost use Rattle.rh_term.specs.Clause.{are_within};
 ghost use Rattle.rh_axioms.specs.Instance.{clauses_of};
 ghost use Rattle.rh_axioms.specs.Rows.{single, each, number_pairs, computed_with, computations, reads_of_unheld, row, instances_of};
 
@@ -20,8 +21,10 @@ pub fn instances<const N: usize>(
     terms: &Terms,
 ) -> Result<Vec<Clause>, AllocError>
     requires { N ≤ 64 }
-    ensures { IfOk result (λ clauses. clauses.items ≡ instances_of table.now.rows terms.now) }
+    ensures instances { IfOk result (λ clauses. clauses.items ≡ instances_of table.now.rows terms.now) }
+    ensures within { IfOk result (λ clauses. IsTrue (are_within (length terms.now) clauses.items)) }
 {
+    let _list = terms.len();
     let mut clauses = Vec::new(alloc);
     for schema in table.rows.iter() {
         add_row(alloc, *schema, terms, &mut clauses)?;

@@ -10,7 +10,7 @@ use Rattle.rh_term.specs.declared.term.Term.TheVariants.{Num, Cst, Addr, Any, Fr
 use Rattle.rh_term.specs.Place.{same_operator, same_term, place_in}
 use Rattle.rh_term.specs.Term.{IsTermList}
 
-same_operator-true : (o p : Operator) → same_operator o p ≡ true → o ≡ p
+pub same_operator-true : (o p : Operator) → same_operator o p ≡ true → o ≡ p
 same_operator-true Add Add e = refl
 same_operator-true Sub Sub e = refl
 same_operator-true Mul Mul e = refl
