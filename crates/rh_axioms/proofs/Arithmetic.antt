@@ -1,11 +1,9 @@
 -- Laws of the operators and of stores.
-use Rattle.std.proofs.Common.{◌≡◌, ◌≢◌, ℕ, zero, suc, Bool, true, false, List, [], ◌∷◌, length, refl, ap, sym, subst, arith, ◌∙◌, ◌⊎◌, inl, inr, pos, ℤ, negsuc, lit<}
-use Rattle.std.specs.Prelude.{◌+ℤ◌, ◌-ℤ◌, ◌*ℤ◌, ◌*◌, neg_ℤ, int_lt, ◌==◌}
+use Rattle.std.proofs.Common.{◌≡◌, ◌≢◌, suc, true, false, List, length, refl, ap, sym, subst, arith, ◌∙◌, inl, inr, pos, ℤ, negsuc, lit<}
+use Rattle.std.specs.Prelude.{◌+ℤ◌, ◌-ℤ◌, ◌*ℤ◌, ◌*◌, neg_ℤ, int_lt}
 use Rattle.std.proofs.Math.IntN.{*ℤ_comm}
-use Rattle.std.specs.Ordering.{int_eq}
 use Rattle.std.specs.Int.{int_wrap}
-use Rattle.std.proofs.lemmas.Bool.{cases_eq, cases_Bool, both_ways, eq-eqb, false_from_ne_true, le-ltb}
-use Rattle.std.proofs.lemmas.Bool.Decides.{nat_tests}
+use Rattle.std.proofs.lemmas.Bool.{cases_eq, cases_Bool, both_ways, false_from_ne_true, le-ltb}
 use Rattle.std.proofs.lemmas.Int.{ints, int_wrap_fits}
 use Rattle.std.proofs.lemmas.List.{get_or_past}
 use mir.Syntax.{w64}
@@ -119,8 +117,9 @@ no_less (APointer l) = refl
 value_eq-sym : (a b : Value) → value_eq a b ≡ value_eq b a
 value_eq-sym a b =
     elim (cases_Bool (value_eq a b)) [
-      inl t ↦ t ∙ sym (value_eq-same b a (sym (value_eq-true a b t)))
-    | inr f ↦ f ∙ sym (false_from_ne_true (value_eq b a) (λ t. both_ways (value_eq a b) f (value_eq-same a b (sym (value_eq-true b a t))))) ]
+      | inl t ↦ t ∙ sym (value_eq-same b a (sym (value_eq-true a b t)))
+      | inr f ↦ f ∙ sym (false_from_ne_true (value_eq b a) (λ t. both_ways (value_eq a b) f (value_eq-same a b (sym (value_eq-true b a t)))))
+    ]
 
 plus_comm : (a b : ℤ) → a +ℤ b ≡ b +ℤ a
 plus_comm a b = omega (arith, ints)
@@ -156,8 +155,9 @@ pub update_same : (s : List Value) (a : Value) → SameReads (update s a (select
 update_same s (ANumber n) l = refl
 update_same s (APointer m) l =
     elim (cases_eq l m) [
-      inl e ↦ subst (λ x. read (write s m (read s m)) x ≡ read s x) (sym e) (read-write_same s m (read s m))
-    | inr ne ↦ read-write_other s m (read s m) l ne ]
+      | inl e ↦ subst (λ x. read (write s m (read s m)) x ≡ read s x) (sym e) (read-write_same s m (read s m))
+      | inr ne ↦ read-write_other s m (read s m) l ne
+    ]
 
 pub unheld_select : (s : List Value) (a b : Value) → is_unheld s a ≡ true → select s b ≢ a
 unheld_select s a (ANumber n) h e = is_unheld-true s a h (length s) (get_or_past s (length s) nothing (omega arith) ∙ e)
@@ -167,6 +167,7 @@ pub still_unheld : (s : List Value) (a v b : Value) → is_unheld s b ≡ true �
 still_unheld s (ANumber n) v b h ne = h
 still_unheld s (APointer m) v b h ne =
     unheld-true (write s m v) b (λ l e.
-      elim (cases_eq l m) [
-        inl at ↦ ne (sym (read-write_same s m v) ∙ ap (read (write s m v)) (sym at) ∙ e)
-      | inr off ↦ is_unheld-true s b h l (sym (read-write_other s m v l off) ∙ e) ])
+    elim (cases_eq l m) [
+      | inl at ↦ ne (sym (read-write_same s m v) ∙ ap (read (write s m v)) (sym at) ∙ e)
+      | inr off ↦ is_unheld-true s b h l (sym (read-write_other s m v l off) ∙ e)
+    ])

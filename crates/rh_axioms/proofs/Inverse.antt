@@ -1,5 +1,5 @@
 -- The term of which these are the parts.
-use Rattle.std.proofs.Common.{◌≡◌, ℕ, ℤ, Bool, true, false, Option, Some, None, refl, ap, sym, ◌∙◌, ◌⊎◌, inl, inr}
+use Rattle.std.proofs.Common.{◌≡◌, ℕ, ℤ, Option, Some, None, refl, ap, sym, ◌∙◌, inl, inr}
 use Rattle.std.specs.Option.{option_and_then}
 use Rattle.std.specs.Prelude.{if◌then◌else◌}
 use Rattle.std.proofs.lemmas.Bool.{cases_Bool, cond-true, cond-false}
@@ -132,9 +132,10 @@ from_operation : (op : Operator) (t : Term) (p : ℕ × ℕ) (found : Option (Op
 from_operation op t p None h e = cc
 from_operation op t p (Some q) h e =
     elim (cases_Bool (same_operator q.0 op)) [
-      inl y ↦ op_of t q h ∙ ap (λ o. Op o q.1 q.2) (same_operator-true q.0 op y)
-        ∙ ap (λ (p : ℕ × ℕ). Op op p.0 p.1) (got (q.1, q.2) p (sym (cond-true (same_operator q.0 op) (Some (q.1, q.2)) None y) ∙ e))
-    | inr n ↦ let f : None ≡ Some p = sym (cond-false (same_operator q.0 op) (Some (q.1, q.2)) None n) ∙ e in cc ]
+      | inl y ↦ op_of t q h ∙ ap (λ o. Op o q.1 q.2) (same_operator-true q.0 op y)
+          ∙ ap (λ (p : ℕ × ℕ). Op op p.0 p.1) (got (q.1, q.2) p (sym (cond-true (same_operator q.0 op) (Some (q.1, q.2)) None y) ∙ e))
+      | inr n ↦ let f : None ≡ Some p = sym (cond-false (same_operator q.0 op) (Some (q.1, q.2)) None n) ∙ e in cc
+    ]
 
 pub operands_of : (op : Operator) (t : Term) (p : ℕ × ℕ) → operands op t ≡ Some p → t ≡ Op op p.0 p.1
 operands_of op t p e = from_operation op t p (as_op t) refl e

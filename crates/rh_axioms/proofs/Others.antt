@@ -1,5 +1,5 @@
 -- A term without a head has no parts of it.
-use Rattle.std.proofs.Common.{◌≡◌, ℕ, ℤ, Some, None, refl}
+use Rattle.std.proofs.Common.{◌≡◌, ℕ, ℤ, None, refl}
 use Rattle.rh_il.specs.declared.value.Op.{Op as Operator}
 use Rattle.rh_term.specs.declared.term.Term.{Term}
 use Rattle.rh_term.specs.declared.term.Term.TheVariants.{Num, Cst, Addr, Any, Fresh, Answer, Before, After, Start, Sel, Upd, Op, Kind, IsNum, IsPtr, Una, Yes}

@@ -1,5 +1,5 @@
 -- What passes a test: each clause of a list, of what there may be, and of each term.
-use Rattle.std.proofs.Common.{◌≡◌, ℕ, zero, suc, ◌+◌, Bool, true, false, List, [], ◌∷◌, ◌++◌, Option, Some, None, slice_get, refl, ap, sym, subst, arith, ◌∙◌}
+use Rattle.std.proofs.Common.{◌≡◌, ℕ, suc, ◌+◌, Bool, true, List, [], ◌∷◌, ◌++◌, Option, Some, None, slice_get, refl, subst, arith, ◌∙◌}
 use Rattle.std.specs.List.{list_all, flat_map}
 use Rattle.std.specs.Option.{option_and_then}
 use Rattle.std.proofs.lemmas.Bool.{and_from}
@@ -8,9 +8,7 @@ use Rattle.rh_term.specs.declared.clause.Clause.{Clause}
 use Rattle.rh_term.specs.declared.term.Term.{Term}
 use Rattle.rh_axioms.specs.declared.instance.Instance.{Instance}
 use Rattle.rh_axioms.specs.Instance.{clause_of, clauses_of}
-use Rattle.rh_axioms.specs.Rows.{each_from, each, of_some, where_is, write_at}
-use Rattle.rh_axioms.specs.Parts.{as_upd}
-use Rattle.rh_term.specs.Place.{place_in}
+use Rattle.rh_axioms.specs.Rows.{each_from, each, of_some}
 
 module _ (test : Clause → Bool) where
   abbrev pub AllPass : List Clause → Type 0
@@ -40,7 +38,7 @@ module _ (test : Clause → Bool) where
       both_pass (make at term) (each_from (at + 1) terms make)
       (let e : at + 0 ≡ at = omega arith in subst (λ x. AllPass (make x term)) e (h 0 term refl))
       (each_from_pass terms (at + 1) make (λ i other there.
-        let e : at + suc i ≡ at + 1 + i = omega arith in subst (λ x. AllPass (make x other)) e (h (suc i) other there)))
+      let e : at + suc i ≡ at + 1 + i = omega arith in subst (λ x. AllPass (make x other)) e (h (suc i) other there)))
 
   pub each_pass : (terms : List Term) (make : ℕ → Term → List Clause) → ((i : ℕ) (term : Term) → slice_get terms i ≡ Some term → AllPass (make i term))
       → AllPass (each terms make)

@@ -1,9 +1,8 @@
 -- What the terms of a list stand for: values, stores, and numbers of 64 bits.
-use Rattle.std.proofs.Common.{◌≡◌, ◌≢◌, ℕ, zero, suc, ◌<◌, ◌≤◌, Bool, true, false, IsTrue, List, [], ◌∷◌, ◌++◌, Some, length, take, slice_get, get_or, refl, ap, sym, subst, arith, ◌∙◌, ◌⊎◌, inl, inr, pos, ℤ, lit<}
+use Rattle.std.proofs.Common.{◌≡◌, ℕ, zero, suc, Bool, true, false, IsTrue, List, [], ◌∷◌, ◌++◌, Some, length, take, slice_get, refl, ap, sym, subst, ◌∙◌, inl, inr, lit<}
 use Rattle.std.specs.List.{All, AllByRecursion, fold}
-use Rattle.std.specs.Ordering.{int_eq}
 use Rattle.std.specs.Prelude.{int_lt}
-use Rattle.std.proofs.lemmas.Bool.{cases_lt, cases_eq, cond_both}
+use Rattle.std.proofs.lemmas.Bool.{cases_lt, cases_eq}
 use Rattle.std.proofs.lemmas.List.{get_or_past}
 use Rattle.std.proofs.lemmas.Int.{SFits-int_wrap}
 use mir.Syntax.{w64}
@@ -92,8 +91,9 @@ nothing_in_range = record { sfits = lit< tt }
 
 reads_in_range : (s : List Value) → All IsValue s → (l : ℕ) → IsValue (read s l)
 reads_in_range s h l = elim (cases_lt l (length s)) [
-    inl below ↦ h l nothing below
-  | inr past ↦ subst IsValue (sym (get_or_past s l nothing past)) nothing_in_range ]
+  | inl below ↦ h l nothing below
+  | inr past ↦ subst IsValue (sym (get_or_past s l nothing past)) nothing_in_range
+]
 
 truth_in_range : (b : Bool) → IsNumber (truth b)
 truth_in_range true = record { sfits = lit< tt }
@@ -121,8 +121,9 @@ select_in_range s (APointer l) h = h l
 update_in_range : (s : List Value) (a v : Value) → ((l : ℕ) → IsValue (read s l)) → IsValue v → (l : ℕ) → IsValue (read (update s a v) l)
 update_in_range s (ANumber n) v h k l = h l
 update_in_range s (APointer m) v h k l = elim (cases_eq l m) [
-    inl e ↦ subst (λ x. IsValue (read (write s m v) x)) (sym e) (subst IsValue (sym (read-write_same s m v)) k)
-  | inr ne ↦ subst IsValue (sym (read-write_other s m v l ne)) (h l) ]
+  | inl e ↦ subst (λ x. IsValue (read (write s m v) x)) (sym e) (subst IsValue (sym (read-write_same s m v)) k)
+  | inr ne ↦ subst IsValue (sym (read-write_other s m v l ne)) (h l)
+]
 
 value_in_range : (d : Denotation) → InRange d → IsValue (value_of d)
 value_in_range (AValue v) h = h

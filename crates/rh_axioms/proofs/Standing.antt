@@ -1,9 +1,9 @@
 -- What stands where in a list of terms, and that it stands within the list.
-use Rattle.std.proofs.Common.{◌≡◌, ℕ, zero, suc, ◌<◌, ◌≤◌, Bool, true, false, IsTrue, List, [], ◌∷◌, Option, Some, None, length, take, slice_get, refl, ap, sym, subst, arith, ◌∙◌}
-use Rattle.std.specs.Option.{option_and_then, option_map_or}
+use Rattle.std.proofs.Common.{◌≡◌, ℕ, zero, suc, ◌<◌, Bool, true, IsTrue, List, [], ◌∷◌, Option, Some, None, length, take, slice_get, refl, ap, subst, ◌∙◌}
+use Rattle.std.specs.Option.{option_and_then}
 use Rattle.std.proofs.lemmas.Option.{slice_get_within}
 use Rattle.rh_term.specs.declared.term.Term.{Term}
-use Rattle.rh_term.specs.declared.term.Term.TheVariants.{Num, Cst, Addr, Any, Fresh, Answer, Before, After, Start, Sel, Upd, Op, Kind, IsNum, IsPtr, Una, Yes}
+use Rattle.rh_term.specs.declared.term.Term.TheVariants.{Upd}
 use Rattle.rh_term.specs.Place.{place_in}
 use Rattle.rh_term.specs.Term.{IsTermList, HasParts, is_at, is_value_term, is_store_term}
 use Rattle.rh_term.proofs.Placed.{place_stands}

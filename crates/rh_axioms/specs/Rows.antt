@@ -32,19 +32,19 @@ write_at terms place make = option_and_then make (option_and_then as_upd (slice_
 abbrev pub read_back : List Term → ℕ → Term → Option Instance
 read_back terms place term =
     option_and_then (λ read. write_at terms read.0 (λ write. where_is terms (Kind write.1) (λ kind. where_is terms IsPtr (λ is_ptr.
-      Some (Three (differ write.1 read.1) (differ kind is_ptr) (equal place write.2)))))) (as_sel term)
+    Some (Three (differ write.1 read.1) (differ kind is_ptr) (equal place write.2)))))) (as_sel term)
 
 -- Sel(U, b), U = Upd(S, a, v):  a == b, Sel(U, b) == Sel(S, b)
 abbrev pub read_before : List Term → ℕ → Term → Option Instance
 read_before terms place term =
     option_and_then (λ read. write_at terms read.0 (λ write. where_is terms (Sel write.0 read.1) (λ before.
-      Some (Two (equal write.1 read.1) (equal place before))))) (as_sel term)
+    Some (Two (equal write.1 read.1) (equal place before))))) (as_sel term)
 
 -- U = Upd(S, a, v):  v != Sel(S, a), U == S
 abbrev pub write_nothing_new : List Term → ℕ → Term → Option Instance
 write_nothing_new terms place term =
     option_and_then (λ write. where_is terms (Sel write.0 write.1) (λ held.
-      Some (Two (differ write.2 held) (equal place write.0)))) (as_upd term)
+    Some (Two (differ write.2 held) (equal place write.0)))) (as_upd term)
 
 -- ---- kinds
 
@@ -69,7 +69,7 @@ operation_kind _ = None
 abbrev pub kind_of : (Term → Option Term) → List Term → ℕ → Term → Option Instance
 kind_of kind terms place term =
     option_and_then (λ value. option_and_then (λ sort. where_is terms sort (λ is. Some (One (equal place is))))
-      (option_and_then kind (slice_get terms value))) (as_kind term)
+    (option_and_then kind (slice_get terms value))) (as_kind term)
 
 -- once:  IsNum != IsPtr
 abbrev pub kinds_differ : List Term → Option Instance
@@ -94,43 +94,43 @@ result_of op left right = number_in (total op (ANumber left) (ANumber right))
 abbrev pub computed : List Term → ℕ → Operator × ℕ × ℕ → ℕ → ℤ → ℕ → Term → Option Instance
 computed terms place operation left c right term =
     option_and_then (λ d. where_is terms (Num (result_of operation.0 c d)) (λ result.
-      Some (Three (differ operation.1 left) (differ operation.2 right) (equal place result)))) (as_num term)
+    Some (Three (differ operation.1 left) (differ operation.2 right) (equal place result)))) (as_num term)
 
 -- Op(op, t, u):  u != Num(n), Kind(t) != IsNum, o == t
 abbrev pub unit_on_the_right : Operator → ℤ → List Term → ℕ → Term → Option Instance
 unit_on_the_right op unit terms place term =
     option_and_then (λ parts. where_is terms (Num unit) (λ number. where_is terms (Kind parts.0) (λ kind. where_is terms IsNum (λ is_num.
-      Some (Three (differ parts.1 number) (differ kind is_num) (equal place parts.0)))))) (operands op term)
+    Some (Three (differ parts.1 number) (differ kind is_num) (equal place parts.0)))))) (operands op term)
 
 -- Op(op, t, u):  t != Num(n), Kind(u) != IsNum, o == u
 abbrev pub unit_on_the_left : Operator → ℤ → List Term → ℕ → Term → Option Instance
 unit_on_the_left op unit terms place term =
     option_and_then (λ parts. where_is terms (Num unit) (λ number. where_is terms (Kind parts.1) (λ kind. where_is terms IsNum (λ is_num.
-      Some (Three (differ parts.0 number) (differ kind is_num) (equal place parts.1)))))) (operands op term)
+    Some (Three (differ parts.0 number) (differ kind is_num) (equal place parts.1)))))) (operands op term)
 
 -- Op(Mul, t, u):  u != Num(0), o == Num(0)
 abbrev pub zero_on_the_right : List Term → ℕ → Term → Option Instance
 zero_on_the_right terms place term =
     option_and_then (λ parts. where_is terms (Num (pos 0)) (λ zero.
-      Some (Two (differ parts.1 zero) (equal place zero)))) (operands Mul term)
+    Some (Two (differ parts.1 zero) (equal place zero)))) (operands Mul term)
 
 -- Op(Mul, t, u):  t != Num(0), o == Num(0)
 abbrev pub zero_on_the_left : List Term → ℕ → Term → Option Instance
 zero_on_the_left terms place term =
     option_and_then (λ parts. where_is terms (Num (pos 0)) (λ zero.
-      Some (Two (differ parts.0 zero) (equal place zero)))) (operands Mul term)
+    Some (Two (differ parts.0 zero) (equal place zero)))) (operands Mul term)
 
 -- Op(op, t, u):  t != u, o == Num(n)
 abbrev pub same_operands : Operator → ℤ → List Term → ℕ → Term → Option Instance
 same_operands op result terms place term =
     option_and_then (λ parts. where_is terms (Num result) (λ number.
-      Some (Two (differ parts.0 parts.1) (equal place number)))) (operands op term)
+    Some (Two (differ parts.0 parts.1) (equal place number)))) (operands op term)
 
 -- Op(Equal, t, u):  t == u, o == Num(0)
 abbrev pub different_operands : List Term → ℕ → Term → Option Instance
 different_operands terms place term =
     option_and_then (λ parts. where_is terms (Num (pos 0)) (λ zero.
-      Some (Two (equal parts.0 parts.1) (equal place zero)))) (operands Equal term)
+    Some (Two (equal parts.0 parts.1) (equal place zero)))) (operands Equal term)
 
 -- the order of the operands does not matter
 abbrev pub commutes : Operator → Bool
@@ -144,8 +144,8 @@ commutes Equal = true
 abbrev pub other_order : List Term → ℕ → Term → Option Instance
 other_order terms place term =
     option_and_then (λ parts. if commutes parts.0
-      then where_is terms (Op parts.0 parts.2 parts.1) (λ later. if nat_lt place later then Some (One (equal place later)) else None)
-      else None) (as_op term)
+    then where_is terms (Op parts.0 parts.2 parts.1) (λ later. if nat_lt place later then Some (One (equal place later)) else None)
+    else None) (as_op term)
 
 -- ---- what no cell holds
 
@@ -158,7 +158,7 @@ unheld_unread terms place unheld at read =
 abbrev pub unheld_after : List Term → ℕ → Term → Option Instance
 unheld_after terms place term =
     option_and_then (λ unheld. write_at terms unheld.0 (λ write. where_is terms (Una write.0 unheld.1) (λ before. where_is terms Yes (λ yes'.
-      Some (Three (differ before yes') (equal write.2 unheld.1) (equal place yes')))))) (as_una term)
+    Some (Three (differ before yes') (equal write.2 unheld.1) (equal place yes')))))) (as_una term)
 
 -- ---- tables
 

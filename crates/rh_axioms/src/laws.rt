@@ -6,5 +6,4 @@ ghost use Rattle.rh_axioms.specs.Laws.{HoldsInModels, TablesHold};
 pub fn schemas_hold()
     ensures schemas { (schema : Axiom) → HoldsInModels schema }
     ensures tables { TablesHold }
-{
-}
+{}

@@ -234,7 +234,11 @@ fn add_reads_of(
     };
     for (at, other) in terms.as_slice().iter().enumerate() {
         if let Some(read) = as_sel(*other) {
-            put(alloc, unheld_unread(terms, place, unheld, at as u32, read), clauses)?;
+            put(
+                alloc,
+                unheld_unread(terms, place, unheld, at as u32, read),
+                clauses,
+            )?;
         }
     }
     Ok(())

@@ -168,11 +168,7 @@ pub fn unheld_after(terms: &Terms, place: u32, term: Term) -> Option<Instance>
     let (old, _, value) = as_upd(terms.get(store)?)?;
     let before = terms.find(Term::Una(old, unheld))?;
     let yes = terms.find(Term::Yes)?;
-    Some(Instance::Three(
-        differ(before, yes),
-        equal(value, unheld),
-        equal(place, yes),
-    ))
+    Some(Instance::Three(differ(before, yes), equal(value, unheld), equal(place, yes)))
 }
 
 pub fn numbers_differ(place: u32, later: u32, term: Term) -> Option<Instance>

@@ -54,6 +54,7 @@ pub enum Axiom {
 }
 
 /// Schemas in order.
+#[derive(Drop)]
 pub struct Table<const N: usize> {
     /// The schemas.
     pub rows: [Axiom; N],

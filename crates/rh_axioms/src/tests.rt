@@ -5,11 +5,11 @@ use std::test::Fail;
 
 fn first_terms(alloc: Global) -> Result<Terms, Fail> {
     let mut terms = Terms::new(alloc);
-    terms.add(Term::Num(0))?;
-    terms.add(Term::Num(1))?;
-    terms.add(Term::IsNum)?;
-    terms.add(Term::IsPtr)?;
-    terms.add(Term::Yes)?;
+    let _place = terms.add(Term::Num(0))?;
+    let _place = terms.add(Term::Num(1))?;
+    let _place = terms.add(Term::IsNum)?;
+    let _place = terms.add(Term::IsPtr)?;
+    let _place = terms.add(Term::Yes)?;
     Ok(terms)
 }
 
