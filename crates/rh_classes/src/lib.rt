@@ -12,3 +12,4 @@ mod congruence;
 mod tests;
 
 pub use classes::Classes;
+pub use congruence::{apart, joined};

@@ -9,7 +9,7 @@ use Rattle.rh_term.specs.declared.term.Term.TheVariants.{Num, Cst, Addr, Any, Fr
 use Rattle.rh_term.specs.Term.{IsTermList, HasParts, is_at, is_value_term, is_store_term}
 use Rattle.rh_term.specs.Model.{Model, Denotation, value_of, store_of, value_at, store_at, denotation_at, denotation_in, denotations}
 
-abbrev grow : Model → List Denotation → Term → List Denotation
+abbrev pub grow : Model → List Denotation → Term → List Denotation
 grow model known term = known ++ denotation_in model known term ∷ []
 
 -- what was known stays

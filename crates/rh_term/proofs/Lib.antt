@@ -6,3 +6,4 @@ pub mod Labels
 pub mod Truth
 pub mod Congruence
 pub mod Bridge
+pub mod Placed

@@ -4,3 +4,4 @@ pub mod Store
 pub mod Model
 pub mod Partition
 pub mod Laws
+pub mod Place

@@ -1,6 +1,7 @@
 //! Lists of terms.
 ghost use Rattle.std.specs.Prelude.{◌≡◌, ◌≢◌, ℕ, ◌<◌, ◌^◌, ◌-◌, [], length, IfOk, OnErr, IfSome, IfNone, slice_get};
 ghost use Rattle.rh_il.specs.Value.{IsNumber};
+ghost use Rattle.rh_term.specs.Place.{place_in};
 ghost use Rattle.rh_term.specs.Term.{HasParts, HasNumber, IsAdded, IsTermList};
 
 use crate::term::Term;
@@ -56,6 +57,7 @@ impl Terms {
     pub fn find(&self, term: Term) -> Option<u32>
         ensures found { IfSome result (λ place. slice_get self.now place ≡ Some term) }
         ensures missing { IfNone result ((place : ℕ) → slice_get self.now place ≢ Some term) }
+        ensures place { result ≡ place_in self.now term }
     {
         place_of(self.items.as_slice(), term)
     }

@@ -1,0 +1,9 @@
+pub mod Others
+pub mod Each
+pub mod Inverse
+pub mod Passing
+pub mod Standing
+pub mod Within
+pub mod Sorts
+pub mod Arithmetic
+pub mod Truths

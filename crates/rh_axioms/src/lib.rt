@@ -1,0 +1,18 @@
+//! The clause schemas: what every model makes true of stores, operators, kinds and cells.
+#![tactic(auto)]
+
+mod instance;
+mod kinds;
+mod laws;
+mod listing;
+mod parts;
+mod rows;
+mod standard_table;
+mod table;
+#[cfg(test)]
+mod tests;
+
+pub use laws::schemas_hold;
+pub use listing::instances;
+pub use standard_table::standard;
+pub use table::{Axiom, Table};

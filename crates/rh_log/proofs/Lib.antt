@@ -1,0 +1,4 @@
+pub mod Growing
+pub mod Trees
+pub mod Refuting
+pub mod Checking

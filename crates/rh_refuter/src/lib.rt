@@ -1,0 +1,7 @@
+//! The search for a closed tree or an open partition.
+#![tactic(auto)]
+
+mod choice;
+mod search;
+
+pub use search::{Verdict, refute};
