@@ -1,13 +1,12 @@
-// A library with one function.
+//! The words of the command line, read as a command.
 #![tactic(auto)]
 
-ghost use Rattle.std.specs.Prelude.{◌≡◌};
-ghost use Rattle.rh_args.specs.Echo.{echo_of};
+mod command;
+mod form;
+mod number;
+mod shape;
 
-// The `ensures` clause is the contract: what `echo` returns is `echo_of` of its argument, a definition
-// in `specs/Echo.antt`, which a caller's clause can cite too.
-pub fn echo(x: usize) -> usize
-    ensures { result ≡ echo_of x }
-{
-    x
-}
+pub use command::{Command, UsageAt, read_words};
+
+#[cfg(test)]
+mod tests;

@@ -1,6 +1,7 @@
 -- The number that digits stand for, as a loop reads them.
 use Rattle.std.proofs.Common.{◌≡◌, ℕ, zero, suc, ◌+◌, ◌-◌, ◌*◌, ◌^◌, ◌<◌, ◌≤◌, true, List, [], ◌∷◌, ◌++◌, length, take, drop, get_or, refl, sym, ap, ◌∙◌, subst, arith, take-append-drop}
 use Rattle.std.proofs.lemmas.List.{take_more}
+use Rattle.std.proofs.lemmas.Grind.{pow_more}
 use Rattle.std.proofs.lemmas.Bool.{and_parts, leb-true, lt-leb, le-leb}
 use Rattle.std.specs.Prelude.{Some, None}
 use Rattle.std.specs.List.{list_all}
@@ -39,3 +40,7 @@ within_limit n m e h = rw (← e) (rw (le-leb n (2 ^ 63) h) refl)
 
 pub over_limit : (n : ℕ) → 2 ^ 63 < n → None ≡ up_to_limit n
 over_limit n h = rw (lt-leb n (2 ^ 63) h) refl
+
+-- the number so far has no more digits than were read
+pub decimal_bound : (value digit len : ℕ) → value < 10 ^ len → digit ≤ 9 → value * 10 + digit < 10 ^ (len + 1)
+decimal_bound value digit len below small = rw pow_more (omega arith)

@@ -9,7 +9,7 @@ mod sign;
 mod token;
 
 pub use lexer::{TEXT_LIMIT, tokens};
-pub use number::decimal;
+pub use number::{decimal, signed};
 pub use sign::Sign;
 pub use token::{LexFault, Token, TokenKind};
 

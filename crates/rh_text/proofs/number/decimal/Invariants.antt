@@ -1,4 +1,4 @@
-use Rattle.std.proofs.Common.{◌≡◌, ◌^◌, ◌≤◌, take}
+use Rattle.std.proofs.Common.{◌≡◌, ◌^◌, ◌<◌, ◌≤◌, take}
 use Rattle.rh_text.specs.Pieces.{decimal_value}
 use Rattle.rh_text.proofs.number.decimal.Given as goal
 
@@ -6,4 +6,5 @@ abbrev pub invariant-loop-digit : goal.invariant-loop-digit
 invariant-loop-digit l = record {
   told : l.value ≡ decimal_value (take l.digit-index l.digits);
   small : l.value ≤ 2 ^ 63;
+  bound : l.value < 10 ^ l.digit-index;
 }
