@@ -1,0 +1,4 @@
+pub mod Derivations
+pub mod Heads
+pub mod Steps
+pub mod Stacks

@@ -1,0 +1,5 @@
+pub mod Tables
+pub mod Derivation
+pub mod Deterministic
+pub mod Stack
+pub mod Parsing
