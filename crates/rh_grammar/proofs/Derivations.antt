@@ -1,9 +1,9 @@
 -- Derivations put together and taken apart.
-use Rattle.std.proofs.Common.{◌≡◌, ℕ, zero, suc, ◌+◌, ◌<◌, ◌≤◌, List, [], ◌∷◌, ◌++◌, Option, Some, refl, sym, ap, ◌∙◌, subst, arith, append_assoc}
+use Rattle.std.proofs.Common.{◌≡◌, ℕ, zero, suc, ◌≤◌, List, [], ◌∷◌, ◌++◌, Some, refl, subst, arith, append_assoc}
 use Rattle.rh_grammar.specs.declared.grammar.Symbol.{Symbol}
 use Rattle.rh_grammar.specs.declared.grammar.Symbol.TheVariants.{Token, Rule}
 use Rattle.rh_grammar.specs.declared.grammar.Grammar.{Grammar}
-use Rattle.rh_grammar.specs.Tables.{choice, empty, production_at}
+use Rattle.rh_grammar.specs.Tables.{production_at}
 use Rattle.rh_grammar.specs.Derivation.{Derives, done, token, expand}
 use Rattle.rh_grammar.specs.Deterministic.{Evidence, AreKnown, AreLower, IsProductive, IsDeterministic}
 

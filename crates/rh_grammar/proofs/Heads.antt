@@ -1,14 +1,14 @@
 -- The first token of what symbols derive decides how they are derived.
-use Rattle.std.proofs.Common.{◌≡◌, ℕ, ◌+◌, ◌<◌, ◌≤◌, Bool, true, false, cond, ◌&&◌, ◌||◌, List, [], ◌∷◌, ◌++◌, Option, Some, None, is_some, refl, sym, ap, ◌∙◌, subst, arith, inl, inr, ◌⊎◌, ⊎_elim}
+use Rattle.std.proofs.Common.{◌≡◌, ℕ, ◌+◌, ◌<◌, true, false, cond, ◌&&◌, List, [], ◌∷◌, ◌++◌, Some, None, is_some, refl, sym, ap, ◌∙◌, arith, inl, inr, ◌⊎◌, ⊎_elim}
 use Rattle.std.proofs.lemmas.Bool.{and_parts, and_from, or_cases, or_left, or_right, eq-eqb, false≢true, cases_Bool}
 use Rattle.rh_grammar.specs.declared.grammar.Symbol.{Symbol}
 use Rattle.rh_grammar.specs.declared.grammar.Symbol.TheVariants.{Token, Rule}
 use Rattle.rh_grammar.specs.declared.grammar.Grammar.{Grammar}
 use Rattle.rh_grammar.specs.Tables.{choice, empty, production_at, chosen, weight}
 use Rattle.rh_grammar.specs.Derivation.{Derives, done, token, expand}
-use Rattle.rh_grammar.specs.Deterministic.{Evidence, vanishes, begins, load, AreFollowed, IsDecided, IsDeterministic}
+use Rattle.rh_grammar.specs.Deterministic.{Evidence, vanishes, begins, load, AreFollowed, IsDeterministic}
 use Rattle.rh_grammar.specs.Parsing.{IsContext}
-use Rattle.rh_grammar.proofs.Derivations.{Expands, expands}
+use Rattle.rh_grammar.proofs.Derivations.{Expands}
 
 -- the symbols may derive tokens with this front
 abbrev HasHead : Grammar → List Symbol → List ℕ → Type 0
@@ -29,10 +29,10 @@ begins_append g (Token c ∷ α) β class h = inl h
 begins_append g (Rule r ∷ α) β class h =
     ⊎_elim (λ here. inl (or_left _ _ here))
     (λ later.
-        let parts = and_parts (is_some (empty g r)) (begins g (α ++ β) class) later in
-        ⊎_elim (λ in_front. inl (or_right _ _ (and_from _ _ parts.0 in_front)))
-        (λ behind. inr (and_from _ _ parts.0 behind.0, behind.1))
-        (begins_append g α β class parts.1))
+    let parts = and_parts (is_some (empty g r)) (begins g (α ++ β) class) later in
+    ⊎_elim (λ in_front. inl (or_right _ _ (and_from _ _ parts.0 in_front)))
+    (λ behind. inr (and_from _ _ parts.0 behind.0, behind.1))
+    (begins_append g α β class parts.1))
     (or_cases (is_some (choice g r class)) (is_some (empty g r) && begins g (α ++ β) class) h)
 
 some_pair : (x y : ℕ × List Symbol) → Some x ≡ Some y → x ≡ y
@@ -83,8 +83,8 @@ module _ (g : Grammar) (e : Evidence) (d : IsDeterministic g e) where
       let one = d.decided x.number rule x.to x.production in
       ⊎_elim (λ here. chosen_first rule class x.number (one.chosen class here))
       (λ later.
-          let none = one.vanishing later.0 in
-          chosen_empty rule class x.number (d.apart rule class x.number none (context.0 class later.1)) none)
+      let none = one.vanishing later.0 in
+      chosen_empty rule class x.number (d.apart rule class x.number none (context.0 class later.1)) none)
       (begins_append g x.to α class (head_of x.derives))
 
   -- at the end it is the one of no symbols
@@ -105,14 +105,14 @@ module _ (g : Grammar) (e : Evidence) (d : IsDeterministic g e) where
       let one = d.decided p rule to h in
       ⊎_elim
       (λ gone.
-          let none = one.vanishing gone in
-          let is_empty : to ≡ [] = ap (λ (q : ℕ × List Symbol). q.1) (some_pair (rule, to) (rule, []) (sym h ∙ d.empties rule p none)) in
-          let same = ap (λ t. load g (t ++ α)) is_empty in
-          let positive = one.lighter in
-          let whole : load g (Rule rule ∷ α) ≡ weight g rule + load g α = rw none refl in
-          omega arith)
+      let none = one.vanishing gone in
+      let is_empty : to ≡ [] = ap (λ (q : ℕ × List Symbol). q.1) (some_pair (rule, to) (rule, []) (sym h ∙ d.empties rule p none)) in
+      let same = ap (λ t. load g (t ++ α)) is_empty in
+      let positive = one.lighter in
+      let whole : load g (Rule rule ∷ α) ≡ weight g rule + load g α = rw none refl in
+      omega arith)
       (λ stays.
-          let lighter = one.lighter in
-          let same = load_append to α stays in
-          omega arith)
+      let lighter = one.lighter in
+      let same = load_append to α stays in
+      omega arith)
       (cases_Bool (vanishes g to))

@@ -2,3 +2,4 @@ pub mod Derivations
 pub mod Heads
 pub mod Steps
 pub mod Stacks
+pub mod Passing

@@ -1,5 +1,5 @@
 -- What a parser keeps true, and what each of its steps does.
-use Rattle.std.proofs.Common.{◌≡◌, ℕ, ◌+◌, ◌<◌, ◌≤◌, List, [], ◌∷◌, ◌++◌, length, take, get_or, Option, Some, None, refl, sym, ap, ◌∙◌, subst, arith, append_assoc}
+use Rattle.std.proofs.Common.{◌≡◌, ℕ, ◌+◌, ◌<◌, List, [], ◌∷◌, ◌++◌, length, take, get_or, Option, Some, None, refl, sym, ap, ◌∙◌, subst, arith, append_assoc}
 use Rattle.std.proofs.lemmas.Bool.{false≢true}
 use Rattle.std.proofs.lemmas.List.{append-nil, take_more, take_all}
 use Rattle.std.specs.Option.{option_or}
@@ -7,11 +7,11 @@ use Rattle.rh_grammar.specs.declared.grammar.Symbol.{Symbol}
 use Rattle.rh_grammar.specs.declared.grammar.Symbol.TheVariants.{Token, Rule}
 use Rattle.rh_grammar.specs.declared.grammar.Grammar.{Grammar}
 use Rattle.rh_grammar.specs.Tables.{choice, empty, chosen, production_at}
-use Rattle.rh_grammar.specs.Derivation.{Derives, done, token, expand, Derivable, BeginsDerivable, IsSyntaxFault}
-use Rattle.rh_grammar.specs.Deterministic.{Evidence, AreKnown, IsProductionOf, IsDeterministic}
-use Rattle.rh_grammar.specs.Parsing.{Ahead, Any, Next, End, Come, IsContext, IsParsed, IsStuck}
-use Rattle.rh_grammar.proofs.Derivations.{Shifts, shifts, Expands, expands, nothing, Yields, yields, known_append}
-use Rattle.rh_grammar.proofs.Heads.{context_step, predicted, predicted_end, head_of}
+use Rattle.rh_grammar.specs.Derivation.{Derives, done, token, expand, BeginsDerivable, IsSyntaxFault}
+use Rattle.rh_grammar.specs.Deterministic.{Evidence, IsProductionOf, IsDeterministic}
+use Rattle.rh_grammar.specs.Parsing.{Ahead, Any, Next, End, Come, IsParsed, IsStuck}
+use Rattle.rh_grammar.proofs.Derivations.{shifts, Expands, expands, nothing, yields, known_append}
+use Rattle.rh_grammar.proofs.Heads.{context_step, predicted, predicted_end}
 
 head_same : (a b : ℕ) (xs ys : List ℕ) → a ∷ xs ≡ b ∷ ys → a ≡ b
 head_same a b xs ys h = cc
@@ -114,7 +114,7 @@ module _ (g : Grammar) (e : Evidence) (d : IsDeterministic g e) (start : ℕ) wh
         let more = begins.0 in
         let derivable = begins.1 in
         let split : take (place + 1) all ++ more ≡ take place all ++ (class ∷ more) =
-            ap (λ l. l ++ more) (take_more all place 0 below) ∙ append_assoc (take place all) (get_or all place 0 ∷ []) more ∙ ap (λ c. take place all ++ (c ∷ more)) (sym class_is) in
+        ap (λ l. l ++ more) (take_more all place 0 below) ∙ append_assoc (take place all) (get_or all place 0 ∷ []) more ∙ ap (λ c. take place all ++ (c ∷ more)) (sym class_is) in
         let derives = subst (Derives g (Rule start ∷ []) derivable.0) split derivable.1 in
         let rest = parsed.complete derivable.0 (class ∷ more) refl derives in
         stuck rest.0 more rest.1;

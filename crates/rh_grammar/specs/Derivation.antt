@@ -1,5 +1,5 @@
 -- What a grammar derives.
-use Rattle.std.specs.Prelude.{◌≡◌, ℕ, ◌+◌, ◌<◌, ◌≤◌, List, [], ◌∷◌, ◌++◌, length, take, Option, Some}
+use Rattle.std.specs.Prelude.{◌≡◌, ℕ, ◌+◌, ◌<◌, ◌≤◌, List, [], ◌∷◌, ◌++◌, length, take, Some}
 use Rattle.rh_grammar.specs.declared.grammar.Symbol.{Symbol}
 use Rattle.rh_grammar.specs.declared.grammar.Symbol.TheVariants.{Token, Rule}
 use Rattle.rh_grammar.specs.declared.grammar.Grammar.{Grammar}

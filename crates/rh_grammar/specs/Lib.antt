@@ -3,3 +3,4 @@ pub mod Derivation
 pub mod Deterministic
 pub mod Stack
 pub mod Parsing
+pub mod Test

@@ -3,7 +3,7 @@ use Rattle.std.specs.Prelude.{◌≡◌, ℕ, ◌<◌, Bool, true, false, List, 
 use Rattle.rh_grammar.specs.declared.grammar.Symbol.{Symbol}
 use Rattle.rh_grammar.specs.declared.grammar.Symbol.TheVariants.{Token, Rule}
 use Rattle.rh_grammar.specs.declared.grammar.Grammar.{Grammar}
-use Rattle.rh_grammar.specs.Tables.{chosen, production_at}
+use Rattle.rh_grammar.specs.Tables.{chosen}
 use Rattle.rh_grammar.specs.Derivation.{Derives, IsSyntaxFault}
 use Rattle.rh_grammar.specs.Deterministic.{Evidence, begins, AreKnown, IsDeterministic}
 

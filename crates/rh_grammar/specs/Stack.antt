@@ -1,5 +1,5 @@
 -- A parser's stack, and the facts that its steps keep.
-use Rattle.std.specs.Prelude.{◌≡◌, ℕ, List, ◌++◌, reverse, Option, Some}
+use Rattle.std.specs.Prelude.{◌≡◌, ℕ, List, ◌++◌, reverse, Some}
 use Rattle.rh_grammar.specs.declared.grammar.Symbol.{Symbol}
 use Rattle.rh_grammar.specs.declared.grammar.Grammar.{Grammar}
 use Rattle.rh_grammar.specs.Tables.{production_at}

@@ -3,7 +3,6 @@ use Rattle.std.specs.Borrow.{Bor}
 use Rattle.std.specs.Prelude.{◌≡◌, ℕ, List, Option, Some, None, slice_get, unwrap_or}
 use Rattle.std.specs.Option.{option_and_then, option_map, option_or}
 use Rattle.rh_grammar.specs.declared.grammar.Symbol.{Symbol}
-use Rattle.rh_grammar.specs.declared.grammar.Production.{Production}
 use Rattle.rh_grammar.specs.declared.grammar.Grammar.{Grammar}
 
 -- the production to take for a nonterminal at a token of a class

@@ -6,3 +6,6 @@ mod parser;
 
 pub use grammar::{Grammar, Production, Symbol};
 pub use parser::{ParseFault, parse};
+
+#[cfg(test)]
+mod tests;

@@ -8,9 +8,8 @@ ghost use Rattle.rh_grammar.specs.Stack.{Pushes};
 ghost use Rattle.rh_grammar.specs.Parsing.{IsTop, IsNextRule, Settles, Takes, Finishes, IsParsable};
 ghost use Rattle.rh_grammar.specs.Deterministic.{Evidence, IsDeterministic};
 
-use std::alloc::{AllocError, AllocFailed, Global};
-
 use crate::grammar::{Grammar, Symbol};
+use std::alloc::{AllocError, AllocFailed, Global};
 
 /// Why a nonterminal doesn't derive tokens.
 #[derive(Clone, Copy, Debug, PartialEq, Eq)]
@@ -49,11 +48,7 @@ fn push_all(stack: &mut Vec<Symbol>, symbols: &[Symbol]) -> Result<(), AllocErro
 }
 
 /// Puts the symbols of a production on a stack.
-fn push_production(
-    stack: &mut Vec<Symbol>,
-    grammar: &Grammar,
-    number: u8,
-) -> Result<(), AllocError>
+fn push_production(stack: &mut Vec<Symbol>, grammar: &Grammar, number: u8) -> Result<(), AllocError>
     ensures { OnOk result (Pushes grammar.now number stack.old.items stack.new.items) }
 {
     if let Some(symbols) = grammar.symbols(number) {

@@ -1,4 +1,4 @@
-use Rattle.std.proofs.Common.{◌≡◌, Some, sym, ◌∙◌, rules}
+use Rattle.std.proofs.Common.{◌≡◌, Some, rules}
 use Rattle.rh_grammar.specs.declared.grammar.Symbol.TheVariants.{Token}
 use Rattle.rh_grammar.specs.Parsing.{IsTop}
 use Rattle.rh_grammar.proofs.Stacks.{parsed_taken, stuck_on_top, not_on_top}
