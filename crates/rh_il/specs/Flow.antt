@@ -1,5 +1,5 @@
 -- The flow graph of a procedure: which statement an edge enters.
-use Rattle.std.specs.Prelude.{ℕ, ◌+◌, ◌==◌, Bool, true, false, List, [], ◌∷◌, ◌++◌, Option, Some, None, filter, slice_get}
+use Rattle.std.specs.Prelude.{ℕ, ◌+◌, ◌==◌, false, List, [], ◌∷◌, ◌++◌, Option, Some, None, filter, slice_get}
 use Rattle.std.specs.Option.{option_and_then, option_map_or}
 use Rattle.rh_il.specs.declared.program.Stmt.{Stmt}
 use Rattle.rh_il.specs.declared.program.Stmt.TheVariants.{Goto, If, Return}

@@ -4,3 +4,5 @@ pub mod Value
 pub mod Op
 pub mod Unspelled
 pub mod Flow
+pub mod Checks
+pub mod Entering

@@ -1,10 +1,21 @@
 //! The intermediate language: names, values, statements, procedures and their edges.
 #![tactic(auto)]
 
+mod check;
+mod fault;
+mod flow;
 mod name;
+mod procedures;
 mod program;
+mod proper;
 mod value;
 
+pub use fault::{Limited, ProgFault, ProgWrong};
 pub use name::Name;
+pub use procedures::Program;
 pub use program::{Base, Edge, Node, Proc, Slot, Stmt};
+pub use proper::{are_proper, is_keyword, is_proper};
 pub use value::{Op, Value};
+
+#[cfg(test)]
+mod tests;

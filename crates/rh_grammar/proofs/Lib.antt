@@ -1,0 +1,5 @@
+pub mod Derivations
+pub mod Heads
+pub mod Steps
+pub mod Stacks
+pub mod Passing

@@ -1,0 +1,107 @@
+-- A test that a grammar is decided by one token and that each nonterminal derives something.
+use Rattle.std.specs.Prelude.{ℕ, zero, suc, Bool, true, false, ◌&&◌, ◌==◌, nat_lt, nat_le, List, [], ◌∷◌, length, Option, Some, None, is_none, slice_get, slice_index, unwrap_or}
+use Rattle.std.specs.List.{list_all}
+use Rattle.rh_grammar.specs.declared.grammar.Symbol.{Symbol}
+use Rattle.rh_grammar.specs.declared.grammar.Symbol.TheVariants.{Token, Rule}
+use Rattle.rh_grammar.specs.declared.grammar.Production.{Production}
+use Rattle.rh_grammar.specs.declared.grammar.Grammar.{Grammar}
+use Rattle.rh_grammar.specs.Tables.{choice, empty, weight, production_at}
+use Rattle.rh_grammar.specs.Deterministic.{vanishes, begins, load, Evidence}
+
+-- What the test goes by, as tables: for each nonterminal which classes may follow it, a production and a height.
+pub record Tables : Type 0 where
+  pub classes : ℕ
+  pub follow : List (List Bool)
+  pub witnesses : List ℕ
+  pub heights : List ℕ
+
+abbrev pub follows_in : Tables → ℕ → ℕ → Bool
+follows_in t rule class = nat_lt class t.classes && unwrap_or (slice_get (unwrap_or (slice_get t.follow rule) []) class) false
+
+abbrev pub evidence_of : Tables → Evidence
+evidence_of t = record {
+  follows = follows_in t;
+  count = length t.witnesses;
+  witness = slice_index t.witnesses;
+  height = slice_index t.heights;
+}
+
+-- the test passes at each number below the bound
+abbrev pub all_below : ℕ → (ℕ → Bool) → Bool
+all_below zero test = true
+all_below (suc n) test = test n && all_below n test
+
+abbrev pub implies : Bool → Bool → Bool
+implies true b = b
+implies false b = true
+
+abbrev pub is_number : Option ℕ → ℕ → Bool
+is_number None n = false
+is_number (Some m) n = m == n
+
+-- tokens of the symbols are of classes below the bound, and their nonterminals are known
+abbrev pub symbols_known : Tables → List Symbol → Bool
+symbols_known t [] = true
+symbols_known t (Token class ∷ symbols) = nat_lt class t.classes && symbols_known t symbols
+symbols_known t (Rule rule ∷ symbols) = nat_lt rule (length t.witnesses) && symbols_known t symbols
+
+abbrev pub symbols_lower : Tables → ℕ → List Symbol → Bool
+symbols_lower t height [] = true
+symbols_lower t height (Token class ∷ symbols) = symbols_lower t height symbols
+symbols_lower t height (Rule rule ∷ symbols) =
+    nat_lt rule (length t.witnesses) && (nat_lt (slice_index t.heights rule) height && symbols_lower t height symbols)
+
+abbrev pub symbols_followed : Grammar → Tables → ℕ → List Symbol → Bool
+symbols_followed g t of [] = true
+symbols_followed g t of (Token class ∷ symbols) = symbols_followed g t of symbols
+symbols_followed g t of (Rule rule ∷ symbols) =
+    all_below t.classes (λ class. implies (begins g symbols class) (follows_in t rule class))
+    && (implies (vanishes g symbols) (all_below t.classes (λ class. implies (follows_in t of class) (follows_in t rule class)))
+    && symbols_followed g t of symbols)
+
+-- one production
+abbrev pub production_passes : Grammar → Tables → ℕ → ℕ → List Symbol → Bool
+production_passes g t p rule to =
+    all_below t.classes (λ class. implies (begins g to class) (is_number (choice g rule class) p))
+    && (implies (vanishes g to) (is_number (empty g rule) p)
+    && (symbols_followed g t rule to
+    && (nat_lt (load g to) (weight g rule)
+    && symbols_known t to)))
+
+-- the productions from a number on
+abbrev pub productions_pass : Grammar → Tables → ℕ → List Production → Bool
+productions_pass g t p [] = true
+productions_pass g t p (one ∷ others) = production_passes g t p one.of one.to.now && productions_pass g t (suc p) others
+
+-- the production of the number is of the nonterminal
+abbrev pub is_of : Option (ℕ × List Symbol) → ℕ → Bool
+is_of None rule = false
+is_of (Some p) rule = p.0 == rule
+
+abbrev pub is_empty_of : Option (ℕ × List Symbol) → ℕ → Bool
+is_empty_of None rule = false
+is_empty_of (Some (of, [])) rule = of == rule
+is_empty_of (Some (of, x ∷ xs)) rule = false
+
+abbrev pub entry_passes : Grammar → ℕ → Option ℕ → Bool
+entry_passes g rule None = true
+entry_passes g rule (Some p) = is_of (production_at g p) rule
+
+-- an empty production is one, and what follows its nonterminal is told from what that begins with
+abbrev pub empty_passes : Grammar → Tables → ℕ → Option ℕ → Bool
+empty_passes g t rule None = true
+empty_passes g t rule (Some p) =
+    is_empty_of (production_at g p) rule && all_below t.classes (λ class. implies (follows_in t rule class) (is_none (choice g rule class)))
+
+abbrev pub lower_passes : Tables → ℕ → Option (ℕ × List Symbol) → Bool
+lower_passes t rule None = false
+lower_passes t rule (Some p) = (p.0 == rule) && symbols_lower t (slice_index t.heights rule) p.1
+
+-- the whole test
+abbrev pub is_deterministic : Grammar → Tables → Bool
+is_deterministic g t =
+    productions_pass g t 0 g.productions.now
+    && (all_below (length g.choices.now) (λ rule. all_below t.classes (λ class. entry_passes g rule (choice g rule class)))
+    && (list_all (λ row. nat_le (length row.now) t.classes) g.choices.now
+    && (all_below (length g.empties.now) (λ rule. empty_passes g t rule (empty g rule))
+    && all_below (length t.witnesses) (λ rule. lower_passes t rule (production_at g (slice_index t.witnesses rule))))))

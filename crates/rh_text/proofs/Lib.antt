@@ -1,0 +1,5 @@
+pub mod Runs
+pub mod SignLemmas
+pub mod FrontLemmas
+pub mod PieceLemmas
+pub mod DecimalLemmas

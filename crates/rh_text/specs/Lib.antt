@@ -1,0 +1,5 @@
+pub mod Signs
+pub mod Pieces
+pub mod Fronts
+pub mod Decimal
+pub mod Tokens

@@ -1,0 +1,33 @@
+//! The tokens of a text.
+
+ghost use Rattle.std.specs.Prelude.{◌≡◌, ◌≤◌, length, IfOk, IfErr, MatchResult};
+ghost use Rattle.rh_text.specs.Pieces.{AreTokens, IsFirstFault};
+ghost use Rattle.rh_text.specs.Tokens.{FaultsAs};
+
+use crate::front::front_at;
+use crate::token::{LexFault, Token};
+use std::alloc::Global;
+
+/// The most bytes of a text.
+pub const TEXT_LIMIT: usize = 1_048_576;
+
+/// The tokens of a text in order, or its first fault.
+pub fn tokens(alloc: Global, text: &[u8]) -> Result<Vec<Token>, LexFault>
+    requires { length text.now ≤ TEXT_LIMIT }
+    ensures tokens { IfOk result (λ tokens. AreTokens text.now tokens.items) }
+    ensures fault { IfErr result (FaultsAs text.now) }
+{
+    let mut tokens = Vec::new(alloc);
+    let mut at = 0;
+    while at < text.len() {
+        let front = front_at(&text[at..], at as u32)?;
+        let end = at + front.len;
+        if let Some(kind) = front.kind {
+            let start = at as u32;
+            let end = end as u32;
+            tokens.push(Token { kind, start, end })?;
+        }
+        at = end;
+    }
+    Ok(tokens)
+}

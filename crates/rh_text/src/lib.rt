@@ -1,0 +1,17 @@
+//! Cuts a text into its tokens: names, numbers and signs.
+#![tactic(auto)]
+
+mod front;
+mod lexer;
+mod number;
+mod run;
+mod sign;
+mod token;
+
+pub use lexer::{TEXT_LIMIT, tokens};
+pub use number::{decimal, signed};
+pub use sign::Sign;
+pub use token::{LexFault, Token, TokenKind};
+
+#[cfg(test)]
+mod tests;
