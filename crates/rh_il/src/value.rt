@@ -45,9 +45,8 @@ impl Op {
         self.apply(a, b).unwrap_or(Value::Num(0))
     }
 
-    /// What the operator makes of two numbers.
     #[tactic(auto, using(std::proofs::lemmas::Int::wraps))]
-    pub fn number(self, a: i64, b: i64) -> i64
+    fn number(self, a: i64, b: i64) -> i64
         ensures { result ≡ number_of self a b }
     {
         match self {

@@ -6,3 +6,4 @@ pub mod Walks
 pub mod Denotes
 pub mod Bridge
 pub mod Added
+pub mod RuleTrees

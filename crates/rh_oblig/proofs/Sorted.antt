@@ -71,14 +71,6 @@ absent (listed ∷ terms) term e (suc place) stands =
     step_absent (term_eq listed term) (place_of terms term) terms listed term place (λ same. subst (λ (t : Term). term_eq listed t ≡ true) same (term_eq-refl listed))
     (λ s p. absent terms term p place s) stands e
 
-with_term_cases : (test : Bool) (terms : List Term) (term : Term) → (test ≡ true → place_of terms term ≡ length terms) → IsTermList terms → HasParts terms term → HasNumber term
-    → IsTermList (if test then terms ++ term ∷ [] else terms)
-with_term_cases true terms term missing list parts number = grown terms term list parts number (absent terms term (missing refl))
-with_term_cases false terms term missing list parts number = list
-
-pub with_term_list : (terms : List Term) (term : Term) → IsTermList terms → HasParts terms term → HasNumber term → IsTermList (with_term terms term)
-with_term_list terms term list parts number = with_term_cases (place_of terms term == length terms) terms term (eqb-true (place_of terms term) (length terms)) list parts number
-
 -- ---- parts that stand in a list stand in a longer one
 
 get_longer : (terms more : List Term) (place : ℕ) (term : Term) → slice_get terms place ≡ Some term → slice_get (terms ++ more) place ≡ Some term
@@ -120,49 +112,6 @@ parts_in old new term grown parts = subst (λ (terms : List Term). HasParts term
 pub parts_here : (terms : List Term) (place : ℕ) (term : Term) → IsTermList terms → slice_get terms place ≡ Some term → HasParts terms term
 parts_here terms place term list stands =
     subst (λ (t : List Term). HasParts t term) (take-append-drop place terms) (parts_longer (take place terms) (drop place terms) term (list.parts place term stands))
-
--- ---- a tree of the right sorts
-
-pub with_tree_list : (terms : List Term) (tree : Tree) → IsTermList terms → IsSorted tree → IsTermList (with_tree terms tree)
-with_tree_list terms (Leaf term) list sorted = with_term_list terms term list (leaf_parts terms term sorted.0) sorted.1
-with_tree_list terms (Select store address) list sorted =
-    let stored : List Term = with_tree terms store in
-    let parts : List Term = with_tree stored address in
-    let first = with_tree_has terms store in
-    let second = with_tree_has stored address in
-    let store_in : IsIn parts store = stays_in stored parts store second.grown first.is_in in
-    with_term_list parts _ (with_tree_list stored address (with_tree_list terms store list sorted.0) sorted.1)
-    (store_at_place parts store store_in sorted.2, value_at_place parts address second.is_in sorted.3) tt
-with_tree_list terms (Update store address value) list sorted =
-    let stored : List Term = with_tree terms store in
-    let addressed : List Term = with_tree stored address in
-    let parts : List Term = with_tree addressed value in
-    let first = with_tree_has terms store in
-    let second = with_tree_has stored address in
-    let third = with_tree_has addressed value in
-    let store_in : IsIn parts store = stays_in stored parts store (extends_further second.grown third.grown) first.is_in in
-    let address_in : IsIn parts address = stays_in addressed parts address third.grown second.is_in in
-    with_term_list parts (Upd (tree_place parts store) (tree_place parts address) (tree_place parts value)) (with_tree_list addressed value (with_tree_list stored address (with_tree_list terms store list sorted.0) sorted.1) sorted.2)
-    (store_at_place parts store store_in sorted.3, value_at_place parts address address_in sorted.4, value_at_place parts value third.is_in sorted.5) tt
-with_tree_list terms (Compute op left right) list sorted =
-    let lefts : List Term = with_tree terms left in
-    let parts : List Term = with_tree lefts right in
-    let first = with_tree_has terms left in
-    let second = with_tree_has lefts right in
-    let left_in : IsIn parts left = stays_in lefts parts left second.grown first.is_in in
-    with_term_list parts (Computed op (tree_place parts left) (tree_place parts right)) (with_tree_list lefts right (with_tree_list terms left list sorted.0) sorted.1)
-    (value_at_place parts left left_in sorted.2, value_at_place parts right second.is_in sorted.3) tt
-with_tree_list terms (KindOf value) list sorted =
-    let parts : List Term = with_tree terms value in
-    with_term_list parts (Kind (tree_place parts value)) (with_tree_list terms value list sorted.0) (value_at_place parts value (with_tree_has terms value).is_in sorted.1) tt
-with_tree_list terms (Unheld store value) list sorted =
-    let stored : List Term = with_tree terms store in
-    let parts : List Term = with_tree stored value in
-    let first = with_tree_has terms store in
-    let second = with_tree_has stored value in
-    let store_in : IsIn parts store = stays_in stored parts store second.grown first.is_in in
-    with_term_list parts (Una (tree_place parts store) (tree_place parts value)) (with_tree_list stored value (with_tree_list terms store list sorted.0) sorted.1)
-    (store_at_place parts store store_in sorted.2, value_at_place parts value second.is_in sorted.3) tt
 
 -- ---- one more term, as the list of the code takes it
 

@@ -3,6 +3,15 @@ use Rattle.std.specs.Prelude.{ℕ, List, [], ◌∷◌, ◌++◌, map}
 use Rattle.rh_term.specs.declared.clause.Lit.{Lit}
 use Rattle.rh_term.specs.declared.clause.Clause.{Clause}
 use Rattle.rh_term.specs.declared.term.Term.{Term}
+use Rattle.std.specs.List.{All}
+use Rattle.rh_axioms.specs.Rows.{all_schemas, instances_of}
+use Rattle.rh_rule.specs.declared.rule.Rule.{Rule}
+use Rattle.rh_rule.specs.declared.schema.Schema.{Schema}
+use Rattle.rh_term.specs.Laws.{denial}
+use Rattle.rh_term.specs.Partition.{HasNoOpenPartition}
+use Rattle.rh_oblig.specs.Goals.{goals}
+use Rattle.rh_oblig.specs.Hypotheses.{hypotheses}
+use Rattle.rh_oblig.specs.TermList.{term_list}
 use Rattle.rh_oblig.specs.Tree.{tree_place}
 use Rattle.rh_oblig.specs.Literal.{TreeLit, TreeClause}
 
@@ -15,3 +24,27 @@ clause_in terms clause = record { lits = map (lit_in terms) clause }
 
 abbrev pub clauses_in : List Term → List TreeClause → List Clause
 clauses_in terms clauses = map (clause_in terms) clauses
+
+-- what an obligation over a list of terms takes for granted: the hypotheses, and all instances of the
+-- clause schemas
+abbrev pub known_clauses : List Term → List TreeClause → List Clause
+known_clauses terms hypotheses = clauses_in terms hypotheses ++ instances_of all_schemas terms
+
+-- the clauses of an obligation: those, and the denied goal
+abbrev pub obligation_clauses : List Term → List TreeClause → TreeLit → List Clause
+obligation_clauses terms hypotheses goal = known_clauses terms hypotheses ++ denial (lit_in terms goal) ∷ []
+
+-- the list of terms of a goal of a rule
+abbrev pub terms_of : List Schema → Rule → TreeLit → List Term
+terms_of schemas rule goal = term_list rule.params rule.pattern (hypotheses schemas rule) goal
+
+abbrev pub clauses_for : List Schema → Rule → TreeLit → List Clause
+clauses_for schemas rule goal = obligation_clauses (terms_of schemas rule goal) (hypotheses schemas rule) goal
+
+-- the obligation of a goal has no open partition
+abbrev pub IsShown : List Schema → Rule → TreeLit → Type 0
+IsShown schemas rule goal = HasNoOpenPartition (terms_of schemas rule goal) (clauses_for schemas rule goal)
+
+-- the rule is proved where none of its obligations has an open partition
+abbrev pub IsAdmitted : List Schema → Rule → Type 0
+IsAdmitted schemas rule = All (IsShown schemas rule) (goals schemas rule)

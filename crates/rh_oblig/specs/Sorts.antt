@@ -2,7 +2,7 @@
 use Rattle.std.specs.Prelude.{ℕ, ◌<◌, Bool, true, false, IsTrue, List, [], length}
 use Rattle.std.specs.List.{AllByRecursion}
 use Rattle.rh_term.specs.declared.term.Term.{Term}
-use Rattle.rh_term.specs.Term.{is_value_term, is_store_term, HasParts, HasNumber}
+use Rattle.rh_term.specs.Term.{is_value_term, is_store_term, HasParts}
 use Rattle.rh_oblig.specs.Tree.{Tree, Leaf, Select, Update, Compute, KindOf, Unheld, place_of, tree_place}
 
 abbrev pub is_value_tree : Tree → Bool
@@ -18,7 +18,7 @@ is_store_tree _ = false
 
 -- leaves have no parts, and parts are stores and values where they have to be
 abbrev pub IsSorted : Tree → Type 0
-IsSorted (Leaf term) = HasParts [] term × HasNumber term
+IsSorted (Leaf term) = HasParts [] term
 IsSorted (Select store address) = IsSorted store × IsSorted address × IsTrue (is_store_tree store) × IsTrue (is_value_tree address)
 IsSorted (Update store address value) =
     IsSorted store × IsSorted address × IsSorted value × IsTrue (is_store_tree store) × IsTrue (is_value_tree address) × IsTrue (is_value_tree value)
@@ -36,6 +36,6 @@ IsIn terms (Compute op left right) = IsIn terms left × IsIn terms right × (tre
 IsIn terms (KindOf value) = IsIn terms value × (tree_place terms (KindOf value) < length terms)
 IsIn terms (Unheld store value) = IsIn terms store × IsIn terms value × (tree_place terms (Unheld store value) < length terms)
 
--- terms whose parts stand in the list, and whose numbers are of 64 bits
+-- terms whose parts stand in the list
 abbrev pub AreFit : List Term → List Term → Type 0
-AreFit terms others = AllByRecursion (λ other. HasParts terms other × HasNumber other) others
+AreFit terms others = AllByRecursion (HasParts terms) others

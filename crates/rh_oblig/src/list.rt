@@ -3,7 +3,7 @@ ghost use Rattle.std.specs.Prelude.{◌≡◌, ◌<◌, length, OnOk, OnErr};
 ghost use Rattle.rh_oblig.specs.Sorts.{IsIn, IsSorted};
 ghost use Rattle.rh_oblig.specs.Tree.{place_of, tree_place, with_term, with_tree};
 ghost use Rattle.rh_oblig.specs.View.{tree_of};
-ghost use Rattle.rh_term.specs.Term.{HasNumber, HasParts, IsTermList};
+ghost use Rattle.rh_term.specs.Term.{HasParts, IsTermList};
 
 use crate::tree::Tree;
 use rh_term::{Term, Terms};
@@ -99,8 +99,7 @@ fn place_of(terms: &Terms, term: Term) -> u32
 
 /// Puts a term behind the list where it is not in it. A list of nearly 2^32 terms has no room.
 pub(crate) fn add(terms: &mut Terms, term: Term) -> Result<(), AllocError>
-    requires parts { HasParts terms.old term }
-    requires number { HasNumber term }
+    requires { HasParts terms.old term }
     ensures { OnOk result (terms.new ≡ with_term terms.old term) }
 {
     if terms.len() >= u32::MAX - 1 {
