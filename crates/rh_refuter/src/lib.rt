@@ -4,4 +4,4 @@
 mod choice;
 mod search;
 
-pub use search::{Verdict, refute};
+pub use search::{Verdict, is_small, refute};

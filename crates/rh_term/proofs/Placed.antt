@@ -89,13 +89,15 @@ pub place_stands : (terms : List Term) (term : Term) (place : ℕ) → place_in 
 place_stands [] term place e = cc
 place_stands (first ∷ terms) term zero e =
     elim (cases_Bool (same_term first term)) [
-      inl t ↦ ap Some (same_term-true first term t)
-    | inr f ↦ absurd (not_put_off (place_in terms term) (sym (cond-false (same_term first term) (Some zero) (put_off (place_in terms term)) f) ∙ e)) ]
+      | inl t ↦ ap Some (same_term-true first term t)
+      | inr f ↦ absurd (not_put_off (place_in terms term) (sym (cond-false (same_term first term) (Some zero) (put_off (place_in terms term)) f) ∙ e))
+    ]
 place_stands (first ∷ terms) term (suc place) e =
     elim (cases_Bool (same_term first term)) [
-      inl t ↦ let g : Some zero ≡ Some (suc place) = sym (cond-true (same_term first term) (Some zero) (put_off (place_in terms term)) t) ∙ e in cc
-    | inr f ↦ place_stands terms term place
-        (put_off_is (place_in terms term) place (sym (cond-false (same_term first term) (Some zero) (put_off (place_in terms term)) f) ∙ e)) ]
+      | inl t ↦ let g : Some zero ≡ Some (suc place) = sym (cond-true (same_term first term) (Some zero) (put_off (place_in terms term)) t) ∙ e in cc
+      | inr f ↦ place_stands terms term place
+          (put_off_is (place_in terms term) place (sym (cond-false (same_term first term) (Some zero) (put_off (place_in terms term)) f) ∙ e))
+    ]
 
 -- where it stands at one place alone, that is its place
 pub stands_place : (terms : List Term) (term : Term) (place : ℕ) → ((other : ℕ) → slice_get terms other ≡ Some term → other ≡ place)
@@ -106,17 +108,19 @@ stands_place (first ∷ terms) term zero alone e =
     cond-true (same_term first term) (Some zero) (put_off (place_in terms term)) (subst (λ t. same_term first t ≡ true) same (same_term-refl first))
 stands_place (first ∷ terms) term (suc place) alone e =
     elim (cases_Bool (same_term first term)) [
-      inl t ↦ let g : zero ≡ suc place = alone zero (ap Some (same_term-true first term t)) in cc
-    | inr f ↦ cond-false (same_term first term) (Some zero) (put_off (place_in terms term)) f
-        ∙ ap put_off (stands_place terms term place (λ other h. let g : suc other ≡ suc place = alone (suc other) h in cc) e) ]
+      | inl t ↦ let g : zero ≡ suc place = alone zero (ap Some (same_term-true first term t)) in cc
+      | inr f ↦ cond-false (same_term first term) (Some zero) (put_off (place_in terms term)) f
+          ∙ ap put_off (stands_place terms term place (λ other h. let g : suc other ≡ suc place = alone (suc other) h in cc) e)
+    ]
 
 -- where it stands nowhere there is none
 pub no_place : (terms : List Term) (term : Term) → ((place : ℕ) → slice_get terms place ≢ Some term) → place_in terms term ≡ None
 no_place [] term none = refl
 no_place (first ∷ terms) term none =
     elim (cases_Bool (same_term first term)) [
-      inl t ↦ absurd (none zero (ap Some (same_term-true first term t)))
-    | inr f ↦ cond-false (same_term first term) (Some zero) (put_off (place_in terms term)) f ∙ ap put_off (no_place terms term (λ place h. none (suc place) h)) ]
+      | inl t ↦ absurd (none zero (ap Some (same_term-true first term t)))
+      | inr f ↦ cond-false (same_term first term) (Some zero) (put_off (place_in terms term)) f ∙ ap put_off (no_place terms term (λ place h. none (suc place) h))
+    ]
 
 -- the place that was found, in a list of terms
 pub found_place : (terms : List Term) (term : Term) (found : Option ℕ) → IsTermList terms
