@@ -6,6 +6,7 @@ ghost use Rattle.rh_oblig.specs.Tree.{with_term};
 ghost use Rattle.rh_term.specs.Term.{IsTermList};
 
 use crate::list::add;
+use rh_il::Value;
 use rh_term::{Term, Terms};
 use std::alloc::{AllocError, Global};
 
@@ -50,9 +51,10 @@ fn terms_from(alloc: Global, terms: &Terms, place: u32, term: Term) -> Result<Ve
             _ => Ok(vec![in alloc; Term::Kind(place)]?),
         },
         Term::Op(op, left, right) => match (terms.get(left), terms.get(right)) {
-            (Some(Term::Num(a)), Some(Term::Num(b))) => {
-                Ok(vec![in alloc; Term::Kind(place), Term::Num(op.number(a, b))]?)
-            }
+            (Some(Term::Num(a)), Some(Term::Num(b))) => match op.total(Value::Num(a), Value::Num(b)) {
+                Value::Num(number) => Ok(vec![in alloc; Term::Kind(place), Term::Num(number)]?),
+                Value::Ptr(_) => unreachable!(),
+            },
             _ => Ok(vec![in alloc; Term::Kind(place)]?),
         },
         Term::Upd(store, address, _) => Ok(vec![in alloc; Term::Sel(store, address)]?),
