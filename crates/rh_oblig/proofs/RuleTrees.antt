@@ -316,7 +316,7 @@ same_store_lit left right l r = record { left = l.sorted; right = r.sorted }
 
 plain_lits : (params : List Param) (pattern template : Form) → AreLits (step_literals params template ++ equals (store_after params pattern) (store_after params template) ∷ [])
 plain_lits params pattern template =
-    all_both IsLit (step_literals params template) _ (step_lits params template)
+    all_both IsLit (step_literals params template) (equals (store_after params pattern) (store_after params template) ∷ []) (step_lits params template)
     (same_store_lit _ _ (after_store params pattern) (after_store params template), tt)
 
 same_value_lit : (params : List Param) (left right : RuleBase) → IsLit (equals (value params left) (value params right))
@@ -324,7 +324,7 @@ same_value_lit params left right = equal_values _ _ (before_value params left) (
 
 template_lits : (params : List Param) (pattern template : Form) → AreLits (template_goals params pattern template)
 template_lits params (Call to arg) (Call to' arg') = (equal_values _ _ (addr to) (addr to'), (same_value_lit params arg arg', tt))
-template_lits params (If cond) (If cond') = all_both IsLit (step_literals params (If cond')) _ (step_lits params (If cond')) (same_value_lit params cond cond', tt)
+template_lits params (If cond) (If cond') = all_both IsLit (step_literals params (If cond')) (equals (value params cond) (value params cond') ∷ []) (step_lits params (If cond')) (same_value_lit params cond cond', tt)
 template_lits params (Return result) (Return result') = (same_value_lit params result result', tt)
 template_lits params pattern template = plain_lits params pattern template
 

@@ -51,7 +51,10 @@ fn terms_from(alloc: Global, terms: &Terms, place: u32, term: Term) -> Result<Ve
             _ => Ok(vec![in alloc; Term::Kind(place)]?),
         },
         Term::Op(op, left, right) => match (terms.get(left), terms.get(right)) {
-            (Some(Term::Num(a)), Some(Term::Num(b))) => match op.total(Value::Num(a), Value::Num(b)) {
+            (Some(Term::Num(a)), Some(Term::Num(b))) => match op.total(
+                Value::Num(a),
+                Value::Num(b),
+            ) {
                 Value::Num(number) => Ok(vec![in alloc; Term::Kind(place), Term::Num(number)]?),
                 Value::Ptr(_) => unreachable!(),
             },

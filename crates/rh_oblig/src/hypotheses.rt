@@ -28,6 +28,7 @@ pub(crate) fn hypotheses(
     schemas: &[Schema],
     rule: &Rule,
 ) -> Result<Vec<TreeClause>, AllocError>
+    requires { length rule.now.params < 2 ^ 32 }
     ensures { IfOk result (λ clauses. clauses_of clauses.items ≡ hypotheses schemas.now rule.now) }
 {
     let params = rule.params.as_slice();

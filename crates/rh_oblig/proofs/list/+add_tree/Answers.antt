@@ -10,8 +10,8 @@ tree_place-requires t c = before_in _ _ _ (tree_of c.deref-store.result.now) (tr
 pub tree_place-requires-in-Select : goal.tree_place-requires-in-Select
 tree_place-requires-in-Select t c = last_in _ _ (tree_of c.deref-address.result.now) c.in_ok-add_tree-in-Select-2.ensures
 
-pub add-requires-in-Select-clause-parts : goal.add-requires-in-Select-clause-parts
-add-requires-in-Select-clause-parts t c =
+pub add-requires-in-Select : goal.add-requires-in-Select
+add-requires-in-Select t c =
     let stored : is_store_tree (tree_of c.deref-store.result.now) ≡ true = search rules in
     let valued : is_value_tree (tree_of c.deref-address.result.now) ≡ true = search rules in (
       store_part _ (tree_of c.deref-store.result.now) _ c.tree_place.ensures (before_in _ _ _ (tree_of c.deref-store.result.now) (tree_of c.deref-address.result.now) c.in_ok-add_tree-in-Select.ensures c.in_ok-add_tree-in-Select-2.ensures) stored,
@@ -28,8 +28,8 @@ tree_place-requires-in-Update-2 t c = before_in _ _ _ (tree_of c.deref-address-i
 pub tree_place-requires-in-Update-3 : goal.tree_place-requires-in-Update-3
 tree_place-requires-in-Update-3 t c = last_in _ _ (tree_of c.deref-value.result.now) c.in_ok-add_tree-in-Update-3.ensures
 
-pub add-requires-in-Update-clause-parts : goal.add-requires-in-Update-clause-parts
-add-requires-in-Update-clause-parts t c =
+pub add-requires-in-Update : goal.add-requires-in-Update
+add-requires-in-Update t c =
     let stored : is_store_tree (tree_of c.deref-store-in-Update.result.now) ≡ true = search rules in
     let addressed : is_value_tree (tree_of c.deref-address-in-Update.result.now) ≡ true = search rules in
     let valued : is_value_tree (tree_of c.deref-value.result.now) ≡ true = search rules in (
@@ -44,8 +44,8 @@ tree_place-requires-in-Compute t c = before_in _ _ _ (tree_of c.deref-left.resul
 pub tree_place-requires-in-Compute-2 : goal.tree_place-requires-in-Compute-2
 tree_place-requires-in-Compute-2 t c = last_in _ _ (tree_of c.deref-right.result.now) c.in_ok-add_tree-in-Compute-2.ensures
 
-pub add-requires-in-Compute-clause-parts : goal.add-requires-in-Compute-clause-parts
-add-requires-in-Compute-clause-parts t c =
+pub add-requires-in-Compute : goal.add-requires-in-Compute
+add-requires-in-Compute t c =
     let lefts : is_value_tree (tree_of c.deref-left.result.now) ≡ true = search rules in
     let rights : is_value_tree (tree_of c.deref-right.result.now) ≡ true = search rules in (
       value_part _ (tree_of c.deref-left.result.now) _ c.tree_place-in-Compute.ensures (before_in _ _ _ (tree_of c.deref-left.result.now) (tree_of c.deref-right.result.now) c.in_ok-add_tree-in-Compute.ensures c.in_ok-add_tree-in-Compute-2.ensures) lefts,
@@ -55,8 +55,8 @@ add-requires-in-Compute-clause-parts t c =
 pub tree_place-requires-in-KindOf : goal.tree_place-requires-in-KindOf
 tree_place-requires-in-KindOf t c = last_in _ _ (tree_of c.deref-value-in-KindOf.result.now) c.in_ok-add_tree-in-KindOf.ensures
 
-pub add-requires-in-KindOf-clause-parts : goal.add-requires-in-KindOf-clause-parts
-add-requires-in-KindOf-clause-parts t c =
+pub add-requires-in-KindOf : goal.add-requires-in-KindOf
+add-requires-in-KindOf t c =
     let valued : is_value_tree (tree_of c.deref-value-in-KindOf.result.now) ≡ true = search rules in
     value_part _ (tree_of c.deref-value-in-KindOf.result.now) _ c.tree_place-in-KindOf.ensures (last_in _ _ (tree_of c.deref-value-in-KindOf.result.now) c.in_ok-add_tree-in-KindOf.ensures) valued
 
@@ -66,8 +66,8 @@ tree_place-requires-in-Unheld t c = before_in _ _ _ (tree_of c.deref-store-in-Un
 pub tree_place-requires-in-Unheld-2 : goal.tree_place-requires-in-Unheld-2
 tree_place-requires-in-Unheld-2 t c = last_in _ _ (tree_of c.deref-value-in-Unheld.result.now) c.in_ok-add_tree-in-Unheld-2.ensures
 
-pub add-requires-in-Unheld-clause-parts : goal.add-requires-in-Unheld-clause-parts
-add-requires-in-Unheld-clause-parts t c =
+pub add-requires-in-Unheld : goal.add-requires-in-Unheld
+add-requires-in-Unheld t c =
     let stored : is_store_tree (tree_of c.deref-store-in-Unheld.result.now) ≡ true = search rules in
     let valued : is_value_tree (tree_of c.deref-value-in-Unheld.result.now) ≡ true = search rules in (
       store_part _ (tree_of c.deref-store-in-Unheld.result.now) _ c.tree_place-in-Unheld.ensures (before_in _ _ _ (tree_of c.deref-store-in-Unheld.result.now) (tree_of c.deref-value-in-Unheld.result.now) c.in_ok-add_tree-in-Unheld.ensures c.in_ok-add_tree-in-Unheld-2.ensures) stored,
