@@ -2,6 +2,7 @@
 #![tactic(auto)]
 
 mod bits;
+mod example;
 mod listed;
 mod rounds;
 mod system;
@@ -9,6 +10,7 @@ mod system;
 mod tests;
 
 pub use bits::{has, has_all, is_set, with_bit};
+pub use example::branch_in_a_loop;
 pub use listed::ListedSystem;
 pub use rounds::{full_words, greatest, one_greatest, supported_part};
 pub use system::{Row, System};

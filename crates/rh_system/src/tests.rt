@@ -1,3 +1,4 @@
+use crate::example::branch_in_a_loop;
 use crate::listed::ListedSystem;
 use crate::rounds::{greatest, one_greatest};
 use crate::system::{Row, System};
@@ -56,37 +57,13 @@ fn a_row_outside_the_full_words_is_refused(rt: HostRuntime) -> Result<(), Fail> 
     Ok(())
 }
 
-/// A branch in a loop, with six facts on each of six edges. One fact begins at edge 1, and goes round.
 #[test]
 fn a_fact_goes_round_a_loop(rt: HostRuntime) -> Result<(), Fail> {
-    let alloc: Global = rt.alloc();
-    let mut rows = Items::new(alloc);
-    rows.push(Row {
-        bit: 69,
-        premises: Items::new(alloc),
-    })?;
-    for fact in 0..6 {
-        for (edge, before) in [
-            (2u64, [1u64, 5u64].as_slice()),
-            (3, &[1, 5]),
-            (4, &[2]),
-            (5, &[4]),
-        ] {
-            let mut premises = Items::new(alloc);
-            for other in before {
-                premises.push(64 * (*other % 8) + fact)?;
-            }
-            rows.push(Row {
-                bit: 64 * (edge % 8) + fact,
-                premises,
-            })?;
-        }
-    }
-    let full = Items::from([63u64; 6].to_vec(alloc)?);
-    let system = ListedSystem::new(full, rows).ok_or("a row of a bit outside the full words")?;
-    let words = greatest(alloc, &system)?;
+    let system = branch_in_a_loop(rt.alloc())?.ok_or("a row outside the full words")?;
+    let words = greatest(rt.alloc(), &system)?;
     assert_eq!(rt; words.as_slice(), [0, 32, 32, 32, 32, 32].as_slice());
     assert_eq!(rt; system.words(), 6);
+    assert_eq!(rt; system.full(5), 63);
     one_greatest(&system, words.as_slice(), words.as_slice());
     Ok(())
 }
