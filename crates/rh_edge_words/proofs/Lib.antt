@@ -1,0 +1,5 @@
+pub mod Tables
+pub mod Allowed
+pub mod Counts
+pub mod Seats
+pub mod Opens

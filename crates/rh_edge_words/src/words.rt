@@ -1,0 +1,127 @@
+//! The words that threads share.
+ghost use Rattle.std.specs.Prelude.{◌≡◌, ◌<◌, ◌^◌, ℕ, IfOk, length, slice_index};
+ghost use Rattle.rh_system.specs.Bits.{IsSubword};
+ghost use Rattle.rh_system.specs.Rows.{HoldsGreatest};
+ghost use Rattle.rh_core.specs.Moves.{MayClear};
+ghost use Rattle.rh_edge_words.specs.Views.{first_view, after_look, after_load, after_clear};
+
+use crate::rule::{Clearing, Loading, Looking, SystemName, WordsRule};
+use crate::seat::WordSeat;
+use crate::view::View;
+use atomic_table::Table;
+use rh_system::{System, full_words};
+use std::alloc::{AllocError, Global};
+use std::marker::{Model, PhantomData};
+
+/// A law: what a slice of words holds fits a word.
+fn all_fit(words: &[u64])
+    ensures { (k : ℕ) → slice_index words.now k < 2 ^ 64 }
+{}
+
+/// The words of a system in a table that threads share. Contracts see it as the table and the
+/// system.
+pub struct EdgeWords<'s, S: System, N: SystemName> {
+    system: &'s S,
+    table: Table<(), View, (), WordsRule<N>, Global>,
+}
+
+impl<'s, S: System, N: SystemName> Model for EdgeWords<'s, S, N> {
+    ghost use Rattle.std.specs.Prelude.{◌≡◌};
+    ghost use Rattle.atomic_table.specs.Seated.{TableId, table_id_coded};
+
+    ghost Value = { TableId × S };
+
+    ghost use Rattle.rh_edge_words.specs.Seated.{IsTableOf};
+
+    ghost view = { λ t. (t.table.shared.table_id, t.system.now) };
+
+    ghost invariant = { λ t. IsTableOf N.meaning t.table.shared.table_id.words (S.full_words t.system.now) × (N.meaning.rows ≡ S.rows t.system.now) };
+}
+
+impl<'s, S: System, N: SystemName> EdgeWords<'s, S, N> {
+    /// A table with the full words, and its one seat, which has seen them.
+    pub fn new(
+        alloc: Global,
+        system: &'s S,
+    ) -> Result<(EdgeWords<'s, S, N>, WordSeat<N>), AllocError>
+        requires full { N.meaning.full ≡ S.full_words system.now }
+        requires rows { N.meaning.rows ≡ S.rows system.now }
+        requires some { 0 < length (S.full_words system.now) }
+        ensures { IfOk result (λ made. (made.0.1 ≡ system.now) × (made.1.0 ≡ made.0.0) × (made.1.1 ≡ first_view N.meaning.full)) }
+    {
+        // so that their number fits a u32
+        let _few = system.words();
+        let words = full_words(alloc, system)?;
+        all_fit(words.as_slice());
+        let (table, seat) = Table::of_words(alloc, words.as_slice(), &())?;
+        let table = EdgeWords { system, table };
+        let seat = WordSeat {
+            seat,
+            copy: words,
+            cleared: 0,
+            stake: 16,
+            name: PhantomData,
+        };
+        Ok((table, seat))
+    }
+
+    /// The system.
+    pub fn system(&self) -> &S
+        ensures { result.now ≡ self.now.1 }
+    {
+        self.system
+    }
+
+    /// Loads a word.
+    pub fn load(&self, seat: &mut WordSeat<N>, word: u32) -> u64
+        requires table { seat.old.0 ≡ self.now.0 }
+        requires in_range { word < length N.meaning.full }
+        ensures table { seat.new.0 ≡ seat.old.0 }
+        ensures view { seat.new.1 ≡ after_load seat.old.1 word result }
+        ensures within { IsSubword result (slice_index seat.old.1.seen word) }
+        ensures greatest { HoldsGreatest N.meaning.rows seat.new.1.seen }
+    {
+        let found = self
+            .table
+            .shared
+            .load::<Loading<N>>(&mut seat.seat, word as usize);
+        seat.copy[word as usize] = found;
+        found
+    }
+
+    /// Clears the bits of a word that the mask leaves out, and answers the word as it was.
+    pub fn clear(&self, seat: &mut WordSeat<N>, word: u32, mask: u64) -> u64
+        requires table { seat.old.0 ≡ self.now.0 }
+        requires in_range { word < length N.meaning.full }
+        requires lawful { MayClear N.meaning.rows seat.old.1.seen word mask }
+        ensures table { seat.new.0 ≡ seat.old.0 }
+        ensures view { seat.new.1 ≡ after_clear seat.old.1 word mask result }
+        ensures within { IsSubword result (slice_index seat.old.1.seen word) }
+        ensures greatest { HoldsGreatest N.meaning.rows seat.new.1.seen }
+    {
+        let found = self
+            .table
+            .shared
+            .fetch_and::<Clearing<N>>(&mut seat.seat, word as usize, mask);
+        seat.copy[word as usize] = found & mask;
+        seat.cleared += u64::from((found & !mask).count_ones());
+        found
+    }
+
+    /// Reads a word, which counts as no load.
+    fn look(&self, seat: &mut WordSeat<N>, word: u32) -> u64
+        requires table { seat.old.0 ≡ self.now.0 }
+        requires in_range { word < length N.meaning.full }
+        ensures table { seat.new.0 ≡ seat.old.0 }
+        ensures view { seat.new.1 ≡ after_look seat.old.1 word result }
+        ensures within { IsSubword result (slice_index seat.old.1.seen word) }
+        ensures greatest { HoldsGreatest N.meaning.rows seat.new.1.seen }
+    {
+        let found = self
+            .table
+            .shared
+            .load::<Looking<N>>(&mut seat.seat, word as usize);
+        seat.copy[word as usize] = found;
+        found
+    }
+}
