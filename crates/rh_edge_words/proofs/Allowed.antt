@@ -1,16 +1,15 @@
 -- Each step of a seat keeps the rule.
-use Rattle.std.proofs.Common.{◌≡◌, ◌≢◌, ℕ, zero, suc, ◌+◌, ◌-◌, ◌^◌, ◌<◌, ◌≤◌, Bool, true, false, List, [], ◌∷◌, ◌++◌, length, get_or, set, map, bit_and, bit_or, replicate, refl, sym, ap, subst, arith, ◌∙◌, sum_by, length-set}
+use Rattle.std.proofs.Common.{◌≡◌, ℕ, ◌+◌, ◌^◌, ◌<◌, ◌≤◌, List, length, get_or, set, map, bit_and, refl, sym, ap, subst, arith, sum_by, length-set}
 use mathlib.Core.Option.{some, none}
 use lib.ListN.{get_elem?}
 use Rattle.std.specs.Int.{bit_at}
-use Rattle.std.proofs.lemmas.List.{set-get_or, get_or-set_same}
+use Rattle.std.proofs.lemmas.List.{set-get_or}
 use Rattle.std.proofs.lemmas.List.Sums.{get_or-le-sum_by}
 use Rattle.std.proofs.lemmas.Nat.Bits.{bit_at-lt}
-use Rattle.atomic_table.specs.Table.{State, Me, Step, step, keeps, Allows}
+use Rattle.atomic_table.specs.Table.{State, Me, step, keeps, Allows}
 use Rattle.atomic_table.proofs.Lists.{set_here}
 use Rattle.rh_system.specs.Bits.{IsSubword}
-use Rattle.rh_system.specs.Rows.{HoldsGreatest}
-use Rattle.rh_core.specs.State.{WorkerState, CoreState, spent, worker_at, IsLive}
+use Rattle.rh_core.specs.State.{WorkerState, spent, worker_at}
 use Rattle.rh_core.specs.Moves.{saw, took, taken, MayClear}
 use Rattle.rh_core.specs.WordsLaw.{KeepsWords}
 use Rattle.rh_core.proofs.Lists.{parted, live_inside}
@@ -18,9 +17,10 @@ use Rattle.rh_core.proofs.Keeps.{load_keeps, and_keeps}
 use Rattle.rh_edge_words.specs.declared.view.View.{View}
 use Rattle.rh_edge_words.specs.Meaning.{Meaning}
 use Rattle.rh_edge_words.specs.Views.{worker_of, after_look, after_load, after_clear}
-use Rattle.rh_edge_words.specs.Rule.{core_of, KeepsTable}
+use Rattle.rh_edge_words.specs.Rule.{core_of, IsTallied, KeepsTable}
 use Rattle.rh_edge_words.specs.Steps.{Finds, Looks, Loads, Clears}
-use Rattle.rh_edge_words.proofs.Tables.{at_view, worker_is, live_at, knows, stake_fits, step_keeps}
+use Rattle.rh_edge_words.proofs.Tables.{at_view, worker_is, live_at, knows, stake_fits, tally, step_keeps}
+use Rattle.rh_edge_words.proofs.Tallies.{same_tally, clear_tally}
 
 module _ {S : Type 0} (m : Meaning) where
   -- the core after a load
@@ -43,11 +43,14 @@ module _ {S : Type 0} (m : Meaning) where
       → KeepsTable {S = S} m record { words = words; homes = s.homes; views = set s.views id w } → Finds m word v (get_or s.words word 0) w
   found s words id word v w kept e some_stake same after =
       let here : get_elem? (set s.views id w) id ≡ some w = set_here s.views id w ((at_view s.views id v e).0) in
+      let tallied : IsTallied m.full w = tally m record { words = words; homes = s.homes; views = set s.views id w } id w after here in
       let fits : w.stake ≤ 16 = stake_fits m record { words = words; homes = s.homes; views = set s.views id w } id w after here in
       record {
         within = within_seen s id word v kept e some_stake;
         greatest = knows m record { words = words; homes = s.homes; views = set s.views id w } id w after here (omega arith);
         stake = fits;
+        fit = tallied.fit;
+        counted = tallied.counted;
       }
 
   pub allows_look : (slots id word : ℕ) (me : Me S View) → 0 < me.0.stake → word < length m.full
@@ -56,7 +59,7 @@ module _ {S : Type 0} (m : Meaning) where
       let v = me.0 in
       let n : ℕ = get_or s.words word 0 in
       let w : View = after_look v word n in
-      let after = step_keeps m s (set s.words word n) id v w kept e refl refl some_stake (read_core s id word v kept e some_stake inside) in
+      let after = step_keeps m s (set s.words word n) id v w kept e refl (same_tally m.full v w (tally m s id v kept e) some_stake some_stake refl refl refl) (read_core s id word v kept e some_stake inside) in
       (w, keeps, tt, after, record { view = refl; carried = refl; finds = found s (set s.words word n) id word v w kept e some_stake refl after })
 
   pub allows_load : (slots id word : ℕ) (me : Me S View) → 0 < me.0.stake → word < length m.full
@@ -65,7 +68,7 @@ module _ {S : Type 0} (m : Meaning) where
       let v = me.0 in
       let n : ℕ = get_or s.words word 0 in
       let w : View = after_load v word n in
-      let after = step_keeps m s (set s.words word n) id v w kept e refl (length-set v.loads word (get_or v.loads word 0 + 1)) some_stake (read_core s id word v kept e some_stake inside) in
+      let after = step_keeps m s (set s.words word n) id v w kept e refl (same_tally m.full v w (tally m s id v kept e) some_stake some_stake refl refl (length-set v.loads word (get_or v.loads word 0 + 1))) (read_core s id word v kept e some_stake inside) in
       (w, keeps, tt, after, record { view = refl; carried = refl; finds = found s (set s.words word n) id word v w kept e some_stake refl after })
 
   -- ---- clear
@@ -101,7 +104,11 @@ module _ {S : Type 0} (m : Meaning) where
       let v = me.0 in
       let n : ℕ = get_or s.words word 0 in
       let w : View = after_clear v word mask n in
-      let after = step_keeps m s (set s.words word (bit_and n mask)) id v w kept e refl refl some_stake (cleared_core s id word mask v kept e some_stake inside fits may) in (
+      let long : length v.credits ≡ length s.words =
+      subst (λ (x : WorkerState). length x.credits ≡ length s.words) (worker_is s.words s.views id v e) (kept.core.seen id (live_at s.words s.views id v e some_stake)).credits_as_long in
+      let words_long : length s.words ≡ length m.full = kept.core.as_long in
+      let tallied : IsTallied m.full w = clear_tally m.full v word mask n (tally m s id v kept e) some_stake (omega arith) small (λ place below. taken_apart s id word mask place v kept e some_stake fits below) in
+      let after = step_keeps m s (set s.words word (bit_and n mask)) id v w kept e refl tallied (cleared_core s id word mask v kept e some_stake inside fits may) in (
         w,
         keeps,
         tt,
@@ -110,6 +117,5 @@ module _ {S : Type 0} (m : Meaning) where
           view = refl;
           carried = refl;
           finds = found s (set s.words word (bit_and n mask)) id word v w kept e some_stake refl after;
-          apart = λ place small'. taken_apart s id word mask place v kept e some_stake fits small';
         },
       )

@@ -1,5 +1,8 @@
+pub mod Counts
+pub mod Tallies
 pub mod Tables
 pub mod Allowed
-pub mod Counts
 pub mod Seats
 pub mod Opens
+pub mod Shares
+pub mod Closes

@@ -1,11 +1,10 @@
 -- A new table and its seat.
-use Rattle.std.proofs.Common.{◌≡◌, ◌≢◌, ℕ, ◌+◌, ◌-◌, ◌*◌, ◌^◌, ◌<◌, ◌≤◌, zero, suc, List, [], ◌∷◌, length, get_or, set, replicate, refl, sym, ap, subst, arith, ◌∙◌, sum_by}
+use Rattle.std.proofs.Common.{◌≡◌, ℕ, ◌^◌, ◌<◌, zero, suc, List, [], ◌∷◌, length, get_or, refl, sym, subst, arith}
 use Rattle.std.specs.Int.RustNames.{count_ones}
 use Rattle.std.proofs.lemmas.List.{length-replicate}
-use Rattle.std.proofs.lemmas.Nat.{ones_le_self, pow_pos}
-use Rattle.atomic_table.specs.Table.{State, opening}
+use Rattle.std.proofs.lemmas.Nat.{pow_pos}
+use Rattle.atomic_table.specs.Table.{opening}
 use Rattle.rh_system.specs.declared.system.Row.{Row}
-use Rattle.rh_system.specs.Bits.{bit_count}
 use Rattle.rh_system.specs.Rows.{IsCovered}
 use Rattle.rh_system.proofs.OneRound.{full_holds}
 use Rattle.rh_core.proofs.Lists.{by_copies, none_of_copies}
@@ -13,28 +12,28 @@ use Rattle.rh_core.proofs.Keeps.{opening_keeps}
 use Rattle.rh_edge_words.specs.declared.view.View.{View}
 use Rattle.rh_edge_words.specs.Meaning.{Meaning}
 use Rattle.rh_edge_words.specs.Views.{first_view, spent_view}
-use Rattle.rh_edge_words.specs.Rule.{CountsLoads, KeepsTable}
-use Rattle.rh_edge_words.specs.Seated.{IsSeated, IsSeat}
+use Rattle.rh_edge_words.specs.Rule.{IsTallied, KeepsTable}
+use Rattle.rh_edge_words.proofs.Tallies.{none_bits, spent_tallied}
+use Rattle.rh_edge_words.specs.Seated.{IsSeat}
 
-none_counted : (full : List ℕ) → CountsLoads full spent_view
-none_counted full = record { counted = λ h. absurd (omega arith); none = λ h. refl }
+first_tallied : (full : List ℕ) → IsTallied full (first_view full)
+first_tallied full = record {
+  loads = λ h. length-replicate (length full) 0;
+  no_loads = λ h. absurd (omega arith);
+  fit = λ k. by_copies (λ (x : ℕ). x < 2 ^ 64) (length full) 0 0 k (pow_pos 64) (pow_pos 64);
+  counted = sym (none_of_copies count_ones (length full) 0 none_bits);
+}
 
-first_counted : (full : List ℕ) → CountsLoads full (first_view full)
-first_counted full = record { counted = λ h. length-replicate (length full) 0; none = λ h. absurd (omega arith) }
-
-counted_at : (full : List ℕ) (id : ℕ) → CountsLoads full (get_or (first_view full ∷ []) id spent_view)
-counted_at full zero = first_counted full
-counted_at full (suc id) = none_counted full
+tallied_at : (full : List ℕ) (id : ℕ) → IsTallied full (get_or (first_view full ∷ []) id spent_view)
+tallied_at full zero = first_tallied full
+tallied_at full (suc id) = spent_tallied full
 
 pub opens : {S : Type 0} (m : Meaning) → IsCovered m.full m.rows → KeepsTable {S = S} m (opening m.full [] (first_view m.full))
 opens {S} m covered = record {
   core = opening_keeps 1 covered;
   stakes = refl;
-  loads = counted_at m.full;
+  tallied = tallied_at m.full;
 }
-
-none_bits : count_ones 0 ≡ 0
-none_bits = let le : count_ones 0 ≤ 0 = ones_le_self 0 in omega arith
 
 pub first_seat : {A : Type 0} (m : Meaning) → IsCovered m.full m.rows → length m.full < 2 ^ 32 → IsSeat m {A = A} (first_view m.full) [] m.full 0 16
 first_seat {A} m covered few = record {
@@ -45,12 +44,13 @@ first_seat {A} m covered few = record {
     credits_as_long = length-replicate (length m.full) 0;
     loads_as_long = length-replicate (length m.full) 0;
     credits_fit = λ k. by_copies (λ (x : ℕ). x < 2 ^ 64) (length m.full) 0 0 k (pow_pos 64) (pow_pos 64);
+    counted = sym (none_of_copies count_ones (length m.full) 0 none_bits);
     few = few;
     greatest = full_holds m.full m.rows covered;
   };
   empty = refl;
   copied = refl;
-  counted = sym (none_of_copies count_ones (length m.full) 0 none_bits);
+  counted = refl;
   staked = refl;
 }
 

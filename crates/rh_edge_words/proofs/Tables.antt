@@ -1,5 +1,5 @@
 -- The table as a state of the solver.
-use Rattle.std.proofs.Common.{◌≡◌, ◌≢◌, ℕ, zero, suc, ◌+◌, ◌-◌, ◌<◌, ◌≤◌, Bool, true, false, List, [], ◌∷◌, ◌++◌, length, get_or, set, map, refl, sym, ap, subst, arith, ◌∙◌, sum_by, length-set, nat_lt}
+use Rattle.std.proofs.Common.{◌≡◌, ℕ, zero, suc, ◌+◌, ◌<◌, ◌≤◌, true, List, [], ◌∷◌, length, get_or, set, map, sym, ap, subst, arith, ◌∙◌, sum_by, nat_lt}
 use mathlib.Core.Option.{some, some-injective, some-ne-none}
 use lib.ListN.{get_elem?}
 use Rattle.std.proofs.lemmas.Bool.Decides.{nat_tests}
@@ -14,7 +14,7 @@ use Rattle.rh_core.proofs.Keeps.{seen_holds}
 use Rattle.rh_edge_words.specs.declared.view.View.{View}
 use Rattle.rh_edge_words.specs.Meaning.{Meaning}
 use Rattle.rh_edge_words.specs.Views.{worker_of, spent_view}
-use Rattle.rh_edge_words.specs.Rule.{core_of, CountsLoads, KeepsTable}
+use Rattle.rh_edge_words.specs.Rule.{core_of, IsTallied, KeepsTable}
 
 -- a view that the table has stands at its number
 pub at_view : (views : List View) (id : ℕ) (v : View) → get_elem? views id ≡ some v → (id < length views) × (get_or views id spent_view ≡ v)
@@ -49,21 +49,21 @@ module _ {S : Type 0} (m : Meaning) where
       let total : sum_by (λ (u : View). u.stake) s.views ≡ 16 = kept.stakes in
       omega arith
 
+  pub tally : (s : State S View) (id : ℕ) (v : View) → KeepsTable m s → get_elem? s.views id ≡ some v → IsTallied m.full v
+  tally s id v kept e = subst (λ (u : View). IsTallied m.full u) ((at_view s.views id v e).1) (kept.tallied id)
+
   -- a step that leaves the seat's stake
-  pub step_keeps : (s : State S View) (words : List ℕ) (id : ℕ) (v w : View) → KeepsTable m s → get_elem? s.views id ≡ some v → w.stake ≡ v.stake → length w.loads ≡ length v.loads → 0 < v.stake
+  pub step_keeps : (s : State S View) (words : List ℕ) (id : ℕ) (v w : View) → KeepsTable m s → get_elem? s.views id ≡ some v → w.stake ≡ v.stake → IsTallied m.full w
       → KeepsWords m.full m.rows record { words = words; workers = set (map worker_of s.views) id (worker_of w) }
       → KeepsTable {S = S} m record { words = words; homes = s.homes; views = set s.views id w }
-  step_keeps s words id v w kept e stake loads some_stake core =
+  step_keeps s words id v w kept e stake tallied core =
       let t = at_view s.views id v e in
       let is : (get_or s.views id spent_view).stake ≡ v.stake = ap (λ (u : View). u.stake) t.1 in
       let totals : sum_by (λ (u : View). u.stake) (set s.views id w) + (get_or s.views id spent_view).stake ≡ sum_by (λ (u : View). u.stake) s.views + w.stake =
       sum_by-set (λ (u : View). u.stake) s.views id w spent_view t.0 in
       let total : sum_by (λ (u : View). u.stake) s.views ≡ 16 = kept.stakes in
-      let before : CountsLoads m.full v = subst (λ (u : View). CountsLoads m.full u) t.1 (kept.loads id) in
       record {
         core = subst (λ (ws : List WorkerState). KeepsWords m.full m.rows record { words = words; workers = ws }) (sym (map-set worker_of s.views id w)) core;
         stakes = omega arith;
-        loads = λ j. by_place (λ (u : View). CountsLoads m.full u) s.views id j w spent_view t.0
-            (λ same. record { counted = λ h. loads ∙ before.counted some_stake; none = λ h. absurd (omega arith) })
-            (λ differs. kept.loads j);
+        tallied = λ j. by_place (λ (u : View). IsTallied m.full u) s.views id j w spent_view t.0 (λ same. tallied) (λ differs. kept.tallied j);
       }

@@ -1,9 +1,10 @@
 -- A seat with its copy of the words, its count and its stake.
 use Rattle.std.specs.Prelude.{ℕ, ◌^◌, ◌<◌, ◌≤◌, ◌≡◌, List, [], length, slice_index}
-use Rattle.rh_system.specs.Bits.{bit_count}
+use Rattle.rh_system.specs.Bits.{IsSubword, bit_count}
 use Rattle.rh_system.specs.Rows.{HoldsGreatest}
 use Rattle.rh_edge_words.specs.declared.view.View.{View}
 use Rattle.rh_edge_words.specs.Meaning.{Meaning}
+use Rattle.rh_edge_words.specs.Views.{after_look, poorer, new_view, both_views}
 
 -- what holds of the view of each seat that is not spent
 pub record IsSeated (m : Meaning) (v : View) : Type 0 where
@@ -13,6 +14,7 @@ pub record IsSeated (m : Meaning) (v : View) : Type 0 where
   pub credits_as_long : length v.credits ≡ length m.full
   pub loads_as_long : length v.loads ≡ length m.full
   pub credits_fit : (k : ℕ) → slice_index v.credits k < 2 ^ 64
+  pub counted : v.count ≡ bit_count v.credits
   pub few : length m.full < 2 ^ 32
   pub greatest : HoldsGreatest m.rows v.seen
 
@@ -21,12 +23,26 @@ pub record IsSeat (m : Meaning) {A : Type 0} (v : View) (carried : List A) (copy
   pub seated : IsSeated m v
   pub empty : carried ≡ []
   pub copied : copy ≡ v.seen
-  pub counted : cleared ≡ bit_count v.credits
+  pub counted : cleared ≡ v.count
   pub staked : stake ≡ v.stake
 
-pub record IsTableOf (m : Meaning) (words : ℕ) (full : List ℕ) : Type 0 where
+pub record IsTableOf (m : Meaning) (words slots : ℕ) (full : List ℕ) : Type 0 where
   pub some : 0 < length m.full
   pub few : length m.full < 2 ^ 32
   pub counts : words ≡ length m.full
+  pub no_slots : slots ≡ 0
   pub fit : (k : ℕ) → slice_index m.full k < 2 ^ 64
   pub full_is : m.full ≡ full
+
+-- The view after a split, and that of the new seat. Word 0 was read before
+pub record SplitsView (v w new : View) : Type 0 where
+  pub found : ℕ
+  pub within : IsSubword found (slice_index v.seen 0)
+  pub splitting : w ≡ poorer (after_look v 0 found)
+  pub new_one : new ≡ new_view (after_look v 0 found)
+
+-- the view after a join. Word 0 was read afterwards
+pub record JoinsView (v other w : View) : Type 0 where
+  pub found : ℕ
+  pub within : IsSubword found (slice_index v.seen 0)
+  pub joined : w ≡ after_look (both_views v other) 0 found

@@ -1,10 +1,8 @@
 -- What a step tells the seat that makes it.
-use Rattle.std.specs.Prelude.{ℕ, ◌+◌, ◌<◌, ◌≤◌, ◌≡◌, slice_index}
-use Rattle.std.specs.Int.{bit_at}
+use Rattle.std.specs.Prelude.{ℕ, ◌^◌, ◌<◌, ◌≤◌, ◌≡◌, slice_index}
 use Rattle.atomic_table.specs.Table.{Step, Me}
-use Rattle.rh_system.specs.Bits.{IsSubword}
+use Rattle.rh_system.specs.Bits.{IsSubword, bit_count}
 use Rattle.rh_system.specs.Rows.{HoldsGreatest}
-use Rattle.rh_core.specs.Moves.{taken}
 use Rattle.rh_edge_words.specs.declared.view.View.{View}
 use Rattle.rh_edge_words.specs.Meaning.{Meaning}
 use Rattle.rh_edge_words.specs.Views.{after_look, after_load, after_clear}
@@ -14,6 +12,8 @@ pub record Finds (m : Meaning) (word : ℕ) (v : View) (found : ℕ) (w : View) 
   pub within : IsSubword found (slice_index v.seen word)
   pub greatest : HoldsGreatest m.rows w.seen
   pub stake : w.stake ≤ 16
+  pub fit : (k : ℕ) → slice_index w.credits k < 2 ^ 64
+  pub counted : w.count ≡ bit_count w.credits
 
 module _ {S : Type 0} where
   pub record Looks (m : Meaning) (step : Step S) (me : Me S View) (found : ℕ) (after : Me S View) : Type 0 where
@@ -26,9 +26,7 @@ module _ {S : Type 0} where
     pub carried : after.1 ≡ me.1
     pub finds : Finds m step.word me.0 found after.0
 
-  -- no bit is taken that the seat has the credit for already
   pub record Clears (m : Meaning) (step : Step S) (me : Me S View) (found : ℕ) (after : Me S View) : Type 0 where
     pub view : after.0 ≡ after_clear me.0 step.word step.first found
     pub carried : after.1 ≡ me.1
     pub finds : Finds m step.word me.0 found after.0
-    pub apart : (place : ℕ) → place < 64 → bit_at (slice_index me.0.credits step.word) place + bit_at (taken found step.first) place ≤ 1

@@ -3,10 +3,14 @@
 
 mod rule;
 mod seat;
+#[cfg(test)]
+mod tests;
+mod threads;
 mod view;
 mod words;
 
 pub use rule::{SystemName, WordsRule};
 pub use seat::WordSeat;
+pub use threads::cross;
 pub use view::View;
 pub use words::EdgeWords;

@@ -1,5 +1,5 @@
-use Rattle.std.proofs.Common.{◌≡◌, ◌∙◌, ◌≤◌, ◌<◌, ◌^◌, ◌*◌, ap, sym, subst, arith}
-use Rattle.std.proofs.Common.{ℕ, bit_and, ◌-◌, ◌+◌}
+use Rattle.std.proofs.Common.{◌≡◌, ◌∙◌, ◌≤◌, ◌^◌, ◌*◌, ap, sym, subst, arith}
+use Rattle.std.proofs.Common.{bit_and, ◌-◌}
 use Rattle.std.specs.Int.RustNames.{count_ones}
 use Rattle.std.proofs.lemmas.Nat.{and_le_l, ones-le}
 use Rattle.rh_core.specs.Moves.{MayClear}
@@ -19,11 +19,11 @@ fetch_and-found-requires g c = (
 pub overflow_add-seat : goal.overflow_add-seat
 overflow_add-seat g c =
     let small : bit_count c.seat.inside.seat.me.0.credits ≤ 2 ^ 32 * 64 = count_small g.N.SystemName.meaning c.seat.inside.seat.me.0 c.seat.invariant.seated in
-    let before : c.seat.inside.cleared ≡ bit_count c.seat.inside.seat.me.0.credits = c.seat.invariant.counted in
+    let before : c.seat.inside.cleared ≡ bit_count c.seat.inside.seat.me.0.credits = c.seat.invariant.counted ∙ c.seat.invariant.seated.counted in
     let le : bit_and c.fetch_and-found.result (18446744073709551615 - c.args.mask) ≤ c.fetch_and-found.result = and_le_l c.fetch_and-found.result _ in
     let few : count_ones (bit_and c.fetch_and-found.result (18446744073709551615 - c.args.mask)) ≤ 64 = ones-le 64 _ (omega (arith, c.fetch_and-found.type_inv)) in
     record { fits = omega (arith, c.from.ensures) }
 
 pub invariant_of-seat : goal.invariant_of-seat
 invariant_of-seat g c =
-    cleared_seat g.N.SystemName.meaning _ _ _ _ _ _ _ _ _ _ c.seat.invariant c.fetch_and-found.ensures.2 c.requires.in_range c.fetch_and-found.type_inv c.from.ensures
+    cleared_seat g.N.SystemName.meaning _ _ _ _ _ _ _ _ _ _ c.seat.invariant c.fetch_and-found.ensures.2 c.from.ensures

@@ -1,4 +1,4 @@
-use Rattle.std.proofs.Common.{◌≡◌, ◌∙◌, ap, sym, arith}
+use Rattle.std.proofs.Common.{◌∙◌, ap, sym, arith}
 use Rattle.rh_edge_words.proofs.Allowed.{allows_load}
 use Rattle.rh_edge_words.proofs.words.EdgeWords.load.Goals as goal
 

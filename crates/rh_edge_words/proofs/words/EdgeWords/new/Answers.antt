@@ -1,11 +1,8 @@
-use Rattle.std.proofs.Common.{◌≡◌, ◌∙◌, ◌≤◌, ◌<◌, ◌^◌, ◌*◌, List, ℕ, [], length, slice_index, ap, sym, subst, arith}
+use Rattle.std.proofs.Common.{◌≡◌, ◌∙◌, ◌<◌, ◌^◌, List, ℕ, [], length, slice_index, ap, sym, subst, arith}
 use Rattle.atomic_table.specs.Table.{opening}
 use Rattle.rh_system.specs.Rows.{IsCovered}
-use Rattle.rh_edge_words.specs.declared.view.View.{View}
-use Rattle.rh_edge_words.specs.Meaning.{Meaning}
 use Rattle.rh_edge_words.specs.Views.{first_view}
 use Rattle.rh_edge_words.specs.Rule.{KeepsTable}
-use Rattle.rh_edge_words.specs.Seated.{IsSeat}
 use Rattle.rh_edge_words.proofs.Opens.{opens, first_seat, covered_as, seat_as}
 use Rattle.rh_edge_words.proofs.words.EdgeWords.new.Goals as goal
 
@@ -27,6 +24,7 @@ invariant_of-table g c =
         some = omega (arith, c.requires.some);
         few = omega (arith, c.words-few.ensures, c.words-few.type_inv);
         counts = c.in_ok-table.ensures.0 ∙ ap length laid;
+        no_slots = c.in_ok-table.ensures.1;
         fit = λ k. subst (λ (ws : List ℕ). slice_index ws k < 2 ^ 64) seen (c.all_fit.ensures k);
         full_is = c.requires.full;
       },
