@@ -1,0 +1,4 @@
+pub mod Constants
+pub mod Binding
+pub mod Match
+pub mod Instance

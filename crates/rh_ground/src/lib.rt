@@ -1,0 +1,2 @@
+//! Ground instances of rules at the statements of a program.
+#![tactic(auto)]

@@ -1,0 +1,6 @@
+pub mod Cells
+pub mod Operands
+pub mod Plain
+pub mod Matched
+pub mod Truth
+pub mod Kept

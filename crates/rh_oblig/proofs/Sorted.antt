@@ -1,0 +1,185 @@
+-- Trees of the right sorts keep lists of terms as they have to be.
+use Rattle.std.proofs.Common.{ℕ, zero, suc, ◌≡◌, ◌≢◌, ◌+◌, ◌<◌, ◌≤◌, Bool, true, false, ◌==◌, if◌then◌else◌, List, [], ◌∷◌, ◌++◌, length, take, drop, Option, Some, None, refl, ap, sym, subst, ◌∙◌, arith}
+use Rattle.std.proofs.lemmas.List.{take-append-drop}
+use Rattle.std.specs.Prelude.{slice_get, IsTrue}
+use Rattle.std.specs.Option.{option_map_or}
+use Rattle.std.proofs.lemmas.Bool.{eqb-true}
+use Rattle.rh_term.specs.declared.term.Term.{Term}
+use Rattle.rh_term.specs.declared.term.Term.TheVariants.{Num, Cst, Addr, Any, Fresh, Answer, Before, After, Start, Sel, Upd, Op as Computed, Kind, IsNum, IsPtr, Una, Yes}
+use Rattle.rh_term.specs.Term.{is_value_term, is_store_term, is_at, is_value_at, is_store_at, HasParts, HasNumber, IsTermList}
+use Rattle.rh_term.proofs.Listed.{grown}
+use Rattle.rh_oblig.specs.Tree.{Tree, Leaf, Select, Update, Compute, KindOf, Unheld, term_eq, place_of, tree_place, with_term, with_tree}
+use Rattle.rh_oblig.proofs.Places.{Extends, extends_further, place_found, place_longer, term_eq-refl, with_term_has}
+use Rattle.rh_oblig.proofs.Trees.{IsIn, Has, stays_in, place_same, with_tree_has}
+
+abbrev pub is_value_tree : Tree → Bool
+is_value_tree (Leaf term) = is_value_term term
+is_value_tree (Select store address) = true
+is_value_tree (Compute op left right) = true
+is_value_tree _ = false
+
+abbrev pub is_store_tree : Tree → Bool
+is_store_tree (Leaf term) = is_store_term term
+is_store_tree (Update store address value) = true
+is_store_tree _ = false
+
+-- leaves have no parts, and parts are stores and values where they have to be
+abbrev pub IsSorted : Tree → Type 0
+IsSorted (Leaf term) = HasParts [] term × HasNumber term
+IsSorted (Select store address) = IsSorted store × IsSorted address × IsTrue (is_store_tree store) × IsTrue (is_value_tree address)
+IsSorted (Update store address value) =
+    IsSorted store × IsSorted address × IsSorted value × IsTrue (is_store_tree store) × IsTrue (is_value_tree address) × IsTrue (is_value_tree value)
+IsSorted (Compute op left right) = IsSorted left × IsSorted right × IsTrue (is_value_tree left) × IsTrue (is_value_tree right)
+IsSorted (KindOf value) = IsSorted value × IsTrue (is_value_tree value)
+IsSorted (Unheld store value) = IsSorted store × IsSorted value × IsTrue (is_store_tree store) × IsTrue (is_value_tree value)
+
+-- what a tree in a list is the head of stands at its place
+pub at_place : (test : Term → Bool) (terms : List Term) (place : ℕ) (term : Term) → slice_get terms place ≡ Some term → test term ≡ true → is_at test terms place ≡ true
+at_place test terms place term stands passes = ap (λ o. option_map_or test o false) stands ∙ passes
+
+pub value_at_place : (terms : List Term) (tree : Tree) → IsIn terms tree → is_value_tree tree ≡ true → is_value_at terms (tree_place terms tree) ≡ true
+value_at_place terms (Leaf term) is_in v = at_place is_value_term terms _ term (place_found terms term is_in) v
+value_at_place terms (Select store address) is_in v = at_place is_value_term terms _ _ (place_found terms _ is_in.2) refl
+value_at_place terms (Compute op left right) is_in v = at_place is_value_term terms _ _ (place_found terms _ is_in.2) refl
+value_at_place terms (Update store address value) is_in v = cc
+value_at_place terms (KindOf value) is_in v = cc
+value_at_place terms (Unheld store value) is_in v = cc
+
+pub store_at_place : (terms : List Term) (tree : Tree) → IsIn terms tree → is_store_tree tree ≡ true → is_store_at terms (tree_place terms tree) ≡ true
+store_at_place terms (Leaf term) is_in v = at_place is_store_term terms _ term (place_found terms term is_in) v
+store_at_place terms (Update store address value) is_in v = at_place is_store_term terms _ _ (place_found terms _ is_in.3) refl
+store_at_place terms (Select store address) is_in v = cc
+store_at_place terms (Compute op left right) is_in v = cc
+store_at_place terms (KindOf value) is_in v = cc
+store_at_place terms (Unheld store value) is_in v = cc
+
+-- a term without parts has them in every list
+pub leaf_parts : (terms : List Term) (term : Term) → HasParts [] term → HasParts terms term
+leaf_parts terms (Num number) h = tt
+leaf_parts terms (Cst meta) h = tt
+leaf_parts terms (Addr meta) h = tt
+leaf_parts terms Any h = tt
+leaf_parts terms Fresh h = tt
+leaf_parts terms Answer h = tt
+leaf_parts terms Before h = tt
+leaf_parts terms After h = tt
+leaf_parts terms Start h = tt
+leaf_parts terms IsNum h = tt
+leaf_parts terms IsPtr h = tt
+leaf_parts terms Yes h = tt
+leaf_parts terms (Sel store address) h = let no = h.0 in cc
+leaf_parts terms (Upd store address value) h = let no = h.0 in cc
+leaf_parts terms (Computed op left right) h = let no = h.0 in cc
+leaf_parts terms (Kind value) h = let no = h in cc
+leaf_parts terms (Una store value) h = let no = h.0 in cc
+
+-- a term that stands in the list has a place in it
+step_absent : (test : Bool) (p : ℕ) (terms : List Term) (listed term : Term) (place : ℕ) → (listed ≡ term → test ≡ true)
+    → (slice_get terms place ≡ Some term → p ≡ length terms → ⊥) → slice_get terms place ≡ Some term → (if test then 0 else suc p) ≡ suc (length terms) → ⊥
+step_absent true p terms listed term place same below stands e = omega arith
+step_absent false p terms listed term place same below stands e = below stands (omega arith)
+
+step_first : (test : Bool) (p n : ℕ) (listed term : Term) → (listed ≡ term → test ≡ true) → Some listed ≡ Some term → (if test then 0 else suc p) ≡ suc n → ⊥
+step_first true p n listed term same stands e = omega arith
+step_first false p n listed term same stands e = let listed_is : listed ≡ term = cc in let yes = same listed_is in cc
+
+pub absent : (terms : List Term) (term : Term) → place_of terms term ≡ length terms → (place : ℕ) → slice_get terms place ≡ Some term → ⊥
+absent [] term e place stands = cc
+absent (listed ∷ terms) term e zero stands =
+    step_first (term_eq listed term) (place_of terms term) (length terms) listed term (λ same. subst (λ (t : Term). term_eq listed t ≡ true) same (term_eq-refl listed)) stands e
+absent (listed ∷ terms) term e (suc place) stands =
+    step_absent (term_eq listed term) (place_of terms term) terms listed term place (λ same. subst (λ (t : Term). term_eq listed t ≡ true) same (term_eq-refl listed))
+    (λ s p. absent terms term p place s) stands e
+
+with_term_cases : (test : Bool) (terms : List Term) (term : Term) → (test ≡ true → place_of terms term ≡ length terms) → IsTermList terms → HasParts terms term → HasNumber term
+    → IsTermList (if test then terms ++ term ∷ [] else terms)
+with_term_cases true terms term missing list parts number = grown terms term list parts number (absent terms term (missing refl))
+with_term_cases false terms term missing list parts number = list
+
+pub with_term_list : (terms : List Term) (term : Term) → IsTermList terms → HasParts terms term → HasNumber term → IsTermList (with_term terms term)
+with_term_list terms term list parts number = with_term_cases (place_of terms term == length terms) terms term (eqb-true (place_of terms term) (length terms)) list parts number
+
+-- ---- parts that stand in a list stand in a longer one
+
+get_longer : (terms more : List Term) (place : ℕ) (term : Term) → slice_get terms place ≡ Some term → slice_get (terms ++ more) place ≡ Some term
+get_longer [] more place term e = cc
+get_longer (listed ∷ terms) more zero term e = e
+get_longer (listed ∷ terms) more (suc place) term e = get_longer terms more place term e
+
+at_longer_cases : (test : Term → Bool) (o p : Option Term) → ((term : Term) → o ≡ Some term → p ≡ Some term) → option_map_or test o false ≡ true → option_map_or test p false ≡ true
+at_longer_cases test None p keeps h = cc
+at_longer_cases test (Some term) p keeps h = ap (λ o. option_map_or test o false) (keeps term refl) ∙ h
+
+at_longer : (test : Term → Bool) (terms more : List Term) (place : ℕ) → is_at test terms place ≡ true → is_at test (terms ++ more) place ≡ true
+at_longer test terms more place h = at_longer_cases test (slice_get terms place) (slice_get (terms ++ more) place) (get_longer terms more place) h
+
+pub parts_longer : (terms more : List Term) (term : Term) → HasParts terms term → HasParts (terms ++ more) term
+parts_longer terms more (Sel store address) h = (at_longer is_store_term terms more store h.0, at_longer is_value_term terms more address h.1)
+parts_longer terms more (Upd store address value) h =
+    (at_longer is_store_term terms more store h.0, at_longer is_value_term terms more address h.1, at_longer is_value_term terms more value h.2)
+parts_longer terms more (Computed op left right) h = (at_longer is_value_term terms more left h.0, at_longer is_value_term terms more right h.1)
+parts_longer terms more (Kind value) h = at_longer is_value_term terms more value h
+parts_longer terms more (Una store value) h = (at_longer is_store_term terms more store h.0, at_longer is_value_term terms more value h.1)
+parts_longer terms more (Num number) h = tt
+parts_longer terms more (Cst meta) h = tt
+parts_longer terms more (Addr meta) h = tt
+parts_longer terms more Any h = tt
+parts_longer terms more Fresh h = tt
+parts_longer terms more Answer h = tt
+parts_longer terms more Before h = tt
+parts_longer terms more After h = tt
+parts_longer terms more Start h = tt
+parts_longer terms more IsNum h = tt
+parts_longer terms more IsPtr h = tt
+parts_longer terms more Yes h = tt
+
+pub parts_in : (old new : List Term) (term : Term) → Extends old new → HasParts old term → HasParts new term
+parts_in old new term grown parts = subst (λ (terms : List Term). HasParts terms term) (sym grown.is) (parts_longer old grown.more term parts)
+
+-- the parts of a term that stands in a list of terms stand there
+pub parts_here : (terms : List Term) (place : ℕ) (term : Term) → IsTermList terms → slice_get terms place ≡ Some term → HasParts terms term
+parts_here terms place term list stands =
+    subst (λ (t : List Term). HasParts t term) (take-append-drop place terms) (parts_longer (take place terms) (drop place terms) term (list.parts place term stands))
+
+-- ---- a tree of the right sorts
+
+pub with_tree_list : (terms : List Term) (tree : Tree) → IsTermList terms → IsSorted tree → IsTermList (with_tree terms tree)
+with_tree_list terms (Leaf term) list sorted = with_term_list terms term list (leaf_parts terms term sorted.0) sorted.1
+with_tree_list terms (Select store address) list sorted =
+    let stored : List Term = with_tree terms store in
+    let parts : List Term = with_tree stored address in
+    let first = with_tree_has terms store in
+    let second = with_tree_has stored address in
+    let store_in : IsIn parts store = stays_in stored parts store second.grown first.is_in in
+    with_term_list parts _ (with_tree_list stored address (with_tree_list terms store list sorted.0) sorted.1)
+    (store_at_place parts store store_in sorted.2, value_at_place parts address second.is_in sorted.3) tt
+with_tree_list terms (Update store address value) list sorted =
+    let stored : List Term = with_tree terms store in
+    let addressed : List Term = with_tree stored address in
+    let parts : List Term = with_tree addressed value in
+    let first = with_tree_has terms store in
+    let second = with_tree_has stored address in
+    let third = with_tree_has addressed value in
+    let store_in : IsIn parts store = stays_in stored parts store (extends_further second.grown third.grown) first.is_in in
+    let address_in : IsIn parts address = stays_in addressed parts address third.grown second.is_in in
+    with_term_list parts (Upd (tree_place parts store) (tree_place parts address) (tree_place parts value)) (with_tree_list addressed value (with_tree_list stored address (with_tree_list terms store list sorted.0) sorted.1) sorted.2)
+    (store_at_place parts store store_in sorted.3, value_at_place parts address address_in sorted.4, value_at_place parts value third.is_in sorted.5) tt
+with_tree_list terms (Compute op left right) list sorted =
+    let lefts : List Term = with_tree terms left in
+    let parts : List Term = with_tree lefts right in
+    let first = with_tree_has terms left in
+    let second = with_tree_has lefts right in
+    let left_in : IsIn parts left = stays_in lefts parts left second.grown first.is_in in
+    with_term_list parts (Computed op (tree_place parts left) (tree_place parts right)) (with_tree_list lefts right (with_tree_list terms left list sorted.0) sorted.1)
+    (value_at_place parts left left_in sorted.2, value_at_place parts right second.is_in sorted.3) tt
+with_tree_list terms (KindOf value) list sorted =
+    let parts : List Term = with_tree terms value in
+    with_term_list parts (Kind (tree_place parts value)) (with_tree_list terms value list sorted.0) (value_at_place parts value (with_tree_has terms value).is_in sorted.1) tt
+with_tree_list terms (Unheld store value) list sorted =
+    let stored : List Term = with_tree terms store in
+    let parts : List Term = with_tree stored value in
+    let first = with_tree_has terms store in
+    let second = with_tree_has stored value in
+    let store_in : IsIn parts store = stays_in stored parts store second.grown first.is_in in
+    with_term_list parts (Una (tree_place parts store) (tree_place parts value)) (with_tree_list stored value (with_tree_list terms store list sorted.0) sorted.1)
+    (store_at_place parts store store_in sorted.2, value_at_place parts value second.is_in sorted.3) tt

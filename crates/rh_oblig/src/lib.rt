@@ -1,0 +1,2 @@
+//! What has to be shown of a rule: its obligations.
+#![tactic(auto)]

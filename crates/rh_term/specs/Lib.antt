@@ -1,0 +1,6 @@
+pub mod Term
+pub mod Clause
+pub mod Store
+pub mod Model
+pub mod Partition
+pub mod Laws

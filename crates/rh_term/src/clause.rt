@@ -1,0 +1,20 @@
+//! Literals and clauses.
+use rh_list::Items;
+
+/// That two terms, by their places, are equal or differ.
+#[derive(Clone, Copy, Debug, PartialEq, Eq)]
+pub struct Lit {
+    /// The left term.
+    pub left: u32,
+    /// The right term.
+    pub right: u32,
+    /// Whether the literal is an equation.
+    pub equal: bool,
+}
+
+/// A disjunction of literals. It may have one literal twice.
+#[derive(Drop)]
+pub struct Clause {
+    /// The literals, from left to right.
+    pub lits: Items<Lit>,
+}

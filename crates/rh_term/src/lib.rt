@@ -1,0 +1,19 @@
+//! Terms, literals and clauses, and what they mean.
+//!
+//! Congruence closure and the theory of stores are textbook matter (A. R. Bradley and Z. Manna, The
+//! Calculus of Computation, 2007).
+#![tactic(auto)]
+
+mod clause;
+mod laws;
+mod obligation;
+mod term;
+mod terms;
+#[cfg(test)]
+mod tests;
+
+pub use clause::{Clause, Lit};
+pub use laws::{denotations_by_parts, open_partitions};
+pub use obligation::Obligation;
+pub use term::Term;
+pub use terms::Terms;

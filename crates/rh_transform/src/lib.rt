@@ -1,0 +1,2 @@
+//! Rewriting a program by the rules that are proved.
+#![tactic(auto)]
