@@ -47,6 +47,7 @@ first_seat {A} m covered few = record {
     counted = sym (none_of_copies count_ones (length m.full) 0 none_bits);
     few = few;
     greatest = full_holds m.full m.rows covered;
+    within = λ k place. omega arith;
   };
   empty = refl;
   copied = refl;

@@ -1,5 +1,5 @@
 -- A seat after a step.
-use Rattle.std.proofs.Common.{◌≡◌, ℕ, ◌+◌, ◌*◌, ◌^◌, ◌<◌, ◌≤◌, List, length, get_or, set, bit_and, bit_or, sym, ap, arith, ◌∙◌, length-set}
+use Rattle.std.proofs.Common.{◌≡◌, subst, ℕ, ◌+◌, ◌*◌, ◌^◌, ◌<◌, ◌≤◌, List, length, get_or, set, bit_and, bit_or, sym, ap, arith, ◌∙◌, length-set}
 use mathlib.Core.Option.{none}
 use Rattle.std.specs.Int.RustNames.{count_ones}
 use Rattle.std.proofs.lemmas.List.Elements.{All-from_get_or}
@@ -8,7 +8,12 @@ use Rattle.std.proofs.lemmas.Nat.{ones-le}
 use Rattle.atomic_table.specs.Table.{Me, step}
 use Rattle.rh_system.specs.Bits.{bit_count}
 use Rattle.rh_core.specs.Moves.{taken}
-use Rattle.rh_core.proofs.Lists.{united_length}
+use Rattle.std.proofs.Common.{inl, inr, min}
+use Rattle.std.specs.Int.{bit_at}
+use Rattle.std.proofs.lemmas.Bool.{cases_lt}
+use Rattle.std.proofs.lemmas.List.{set_past}
+use Rattle.std.proofs.lemmas.Nat.Bits.{bit_at_and}
+use Rattle.rh_core.proofs.Lists.{by_place, united_length}
 use Rattle.rh_edge_words.proofs.Tallies.{sums_length}
 use Rattle.rh_edge_words.specs.declared.view.View.{View}
 use Rattle.rh_edge_words.specs.Meaning.{Meaning}
@@ -24,6 +29,17 @@ count_small m v seated =
     let long : length v.credits ≡ length m.full = seated.credits_as_long in
     let few : length m.full < 2 ^ 32 = seated.few in
     omega arith
+
+-- a word that became less than it was is still within others
+written_within : (seen full : List ℕ) (word x k place : ℕ) → bit_at x place ≤ bit_at (get_or seen word 0) place → ((j : ℕ) → bit_at (get_or seen j 0) place ≤ bit_at (get_or full j 0) place)
+    → bit_at (get_or (set seen word x) k 0) place ≤ bit_at (get_or full k 0) place
+written_within seen full word x k place less within =
+    elim (cases_lt word (length seen)) [
+      | inl inside ↦ by_place (λ (y : ℕ). bit_at y place ≤ bit_at (get_or full k 0) place) seen word k x 0 inside
+          (λ same. let a : bit_at (get_or seen k 0) place ≡ bit_at (get_or seen word 0) place = ap (λ (i : ℕ). bit_at (get_or seen i 0) place) same in let b = within k in omega arith)
+          (λ differs. within k)
+      | inr past ↦ subst (λ (ws : List ℕ). bit_at (get_or ws k 0) place ≤ bit_at (get_or full k 0) place) (sym (set_past seen word x past)) (within k)
+    ]
 
 module _ {S : Type 0} (m : Meaning) where
   pub cleared_seat : (slots word mask found count : ℕ) (me after : Me S View) (copy : List ℕ) (cleared stake : ℕ) → IsSeat m me.0 me.1 copy cleared stake → Clears m (step slots word mask 0 none) me found after
@@ -47,6 +63,8 @@ module _ {S : Type 0} (m : Meaning) where
           counted = tells.finds.counted;
           few = seated.few;
           greatest = tells.finds.greatest;
+          within = subst (λ (u : View). (k place : ℕ) → bit_at (get_or u.seen k 0) place ≤ bit_at (get_or m.full k 0) place) (sym is)
+              (λ k place. written_within v.seen m.full word (bit_and found mask) k place (let a = tells.finds.within place in let b : bit_at (bit_and found mask) place ≡ min (bit_at found place) (bit_at mask place) = bit_at_and found mask place in omega arith) (λ j. seated.within j place));
         };
         empty = tells.carried ∙ seat.empty;
         copied = ap (λ (c : List ℕ). set c word (bit_and found mask)) seat.copied ∙ sym (ap (λ (u : View). u.seen) is);
@@ -71,6 +89,8 @@ module _ {S : Type 0} (m : Meaning) where
           counted = finds.counted;
           few = seated.few;
           greatest = finds.greatest;
+          within = subst (λ (ws : List ℕ). (k place : ℕ) → bit_at (get_or ws k 0) place ≤ bit_at (get_or m.full k 0) place) (sym seen)
+              (λ k place. written_within v.seen m.full word found k place (finds.within place) (λ j. seated.within j place));
         };
         empty = kept ∙ seat.empty;
         copied = ap (λ (c : List ℕ). set c word found) seat.copied ∙ sym seen;
@@ -117,6 +137,9 @@ module _ {S : Type 0} (m : Meaning) where
           counted = tells.finds.counted;
           few = seat.seated.few;
           greatest = tells.finds.greatest;
+          within = subst (λ (u : View). (k place : ℕ) → bit_at (get_or u.seen k 0) place ≤ bit_at (get_or m.full k 0) place) (sym is)
+              (λ k place. written_within v.seen m.full 0 found k place
+              (subst (λ (u : View). bit_at found place ≤ bit_at (get_or u.seen 0 0) place) (ap (λ (x : Me S View). x.0) joined) (tells.finds.within place)) (λ j. seat.seated.within j place));
         };
         empty = tells.carried ∙ (ap (λ (x : Me S View). x.1) joined ∙ seat.empty);
         copied = ap (λ (c : List ℕ). set c 0 found) seat.copied ∙ sym (ap (λ (u : View). u.seen) is);

@@ -1,5 +1,6 @@
 -- A seat with its copy of the words, its count and its stake.
 use Rattle.std.specs.Prelude.{ℕ, ◌^◌, ◌<◌, ◌≤◌, ◌≡◌, List, [], length, slice_index}
+use Rattle.rh_system.specs.declared.system.Row.{Row}
 use Rattle.rh_system.specs.Bits.{IsSubword, bit_count}
 use Rattle.rh_system.specs.Rows.{HoldsGreatest}
 use Rattle.rh_edge_words.specs.declared.view.View.{View}
@@ -17,6 +18,7 @@ pub record IsSeated (m : Meaning) (v : View) : Type 0 where
   pub counted : v.count ≡ bit_count v.credits
   pub few : length m.full < 2 ^ 32
   pub greatest : HoldsGreatest m.rows v.seen
+  pub within : (word : ℕ) → IsSubword (slice_index v.seen word) (slice_index m.full word)
 
 -- the seat's copy is the seen words of its view, its count is the number of bits in its credits, and its stake is that of its view
 pub record IsSeat (m : Meaning) {A : Type 0} (v : View) (carried : List A) (copy : List ℕ) (cleared stake : ℕ) : Type 0 where
@@ -25,6 +27,14 @@ pub record IsSeat (m : Meaning) {A : Type 0} (v : View) (carried : List A) (copy
   pub copied : copy ≡ v.seen
   pub counted : cleared ≡ v.count
   pub staked : stake ≡ v.stake
+
+-- a name has the full words and rows of a system, of fewer than 2 ^ 32 words
+pub record IsNameOf (m : Meaning) (full : List ℕ) (rows : List Row) : Type 0 where
+  pub full_is : m.full ≡ full
+  pub rows_are : m.rows ≡ rows
+  pub some : 0 < length m.full
+  pub few : length m.full < 2 ^ 32
+  pub fit : (word : ℕ) → slice_index m.full word < 2 ^ 64
 
 pub record IsTableOf (m : Meaning) (words slots : ℕ) (full : List ℕ) : Type 0 where
   pub some : 0 < length m.full

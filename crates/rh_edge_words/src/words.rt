@@ -3,7 +3,7 @@ ghost use Rattle.std.specs.Prelude.{◌≡◌, ◌+◌, ◌<◌, ◌≤◌, ◌^
 ghost use Rattle.rh_system.specs.Bits.{IsSubword, bit_count};
 ghost use Rattle.rh_system.specs.Rows.{HoldsGreatest, IsGreatest};
 ghost use Rattle.rh_core.specs.Moves.{MayClear};
-ghost use Rattle.rh_edge_words.specs.Seated.{SplitsView, JoinsView};
+ghost use Rattle.rh_edge_words.specs.Seated.{IsNameOf, SplitsView, JoinsView};
 ghost use Rattle.rh_edge_words.specs.Views.{first_view, after_look, after_load, after_clear, poorer, new_view};
 
 use crate::rule::{Clearing, Halves, Loading, Looking, SystemName, Unites, WordsRule};
@@ -72,6 +72,20 @@ impl<'s, S: System, N: SystemName> EdgeWords<'s, S, N> {
         ensures { result.now ≡ self.now.1 }
     {
         self.system
+    }
+
+    /// How many words there are.
+    pub fn count(&self) -> u32
+        ensures { result ≡ length N.meaning.full }
+    {
+        self.system.words()
+    }
+
+    /// A law: the name is one of the system.
+    pub fn is_named(&self)
+        ensures { IsNameOf N.meaning (S.full_words self.now.1) (S.rows self.now.1) }
+    {
+        let _ = &self.table;
     }
 
     /// Loads a word.
