@@ -6,6 +6,10 @@ use Rattle.std.proofs.Math.Nat.{pow-suc}
 use Rattle.std.proofs.lemmas.Bool.{cases_eq}
 use Rattle.std.proofs.lemmas.Nat.{ones-le, ones_cat, ones_le_self, zero_from_ones, div-add-mod', mod_below, pow_pos, div_below}
 use Rattle.std.proofs.lemmas.Nat.Bits.{bit_at_cat_low}
+use Rattle.std.proofs.lemmas.Bool.{cases_lt}
+use Rattle.std.proofs.lemmas.Nat.Bits.{same_from_bits_below}
+use Rattle.rh_system.specs.Bits.{IsSubword}
+use Rattle.rh_system.proofs.Supports.{subword_le}
 use Rattle.rh_core.proofs.Lists.{added}
 
 -- f of each place below k, added up
@@ -73,3 +77,41 @@ ones_added a b a_fits b_fits fits apart =
     over_same 64 (bit_at (bit_or a b)) (λ i. bit_at a i + bit_at b i) (λ i below. added a b i (apart i below)) in
     let sum : over 64 (λ i. bit_at a i + bit_at b i) ≡ over 64 (bit_at a) + over 64 (bit_at b) = over_sum 64 (bit_at a) (bit_at b) in
     omega arith
+
+below_pow : (n : ℕ) → n < 2 ^ n
+below_pow zero = omega arith
+below_pow (suc n) = let h : n < 2 ^ n = below_pow n in let p : 2 ^ suc n ≡ 2 ^ n * 2 = pow-suc 2 n in omega arith
+
+-- a word within another has no more bits
+pub ones_within : (a b : ℕ) → IsSubword a b → count_ones a ≤ count_ones b
+ones_within a b within =
+    let le : a ≤ b = subword_le a b within in
+    let big : b < 2 ^ b = below_pow b in
+    let first : count_ones a ≡ over b (bit_at a) = ones_over b a (omega arith) in
+    let second : count_ones b ≡ over b (bit_at b) = ones_over b b big in
+    let sums : over b (bit_at a) ≤ over b (bit_at b) = over_le b (bit_at a) (bit_at b) (λ i below. within i) in
+    omega arith
+
+-- sums of which one is no larger term by term are equal only where all terms are
+same_terms : (k : ℕ) (f g : ℕ → ℕ) → ((i : ℕ) → i < k → f i ≤ g i) → over k g ≤ over k f → (i : ℕ) → i < k → f i ≡ g i
+unfolding over
+same_terms zero f g le ge i below = absurd (omega arith)
+same_terms (suc k) f g le ge i below =
+    let rest : over k f ≤ over k g = over_le k f g (λ j b. le j (omega arith)) in
+    let last : f k ≤ g k = le k (omega arith) in
+    elim (cases_eq i k) [
+      | inl same ↦ subst (λ j. f j ≡ g j) (sym same) (let e : f k ≡ g k = omega arith in e)
+      | inr differs ↦ same_terms k f g (λ j b. le j (omega arith)) (omega arith) i (omega arith)
+    ]
+
+-- a word within another one, and not the same, has fewer bits
+pub ones_fewer : (a b : ℕ) → b < 2 ^ 64 → IsSubword a b → a ≢ b → count_ones a < count_ones b
+ones_fewer a b fits within differs =
+    let le : a ≤ b = subword_le a b within in
+    let a_fits : a < 2 ^ 64 = omega arith in
+    let first : count_ones a ≡ over 64 (bit_at a) = ones_over 64 a a_fits in
+    let second : count_ones b ≡ over 64 (bit_at b) = ones_over 64 b fits in
+    elim (cases_lt (count_ones a) (count_ones b)) [
+      | inl less ↦ less
+      | inr more ↦ absurd (differs (same_from_bits_below 64 a b a_fits fits (same_terms 64 (bit_at a) (bit_at b) (λ i below. within i) (omega arith))))
+    ]

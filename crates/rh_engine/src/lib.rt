@@ -1,0 +1,9 @@
+//! Workers that solve a system on shared words.
+#![tactic(auto)]
+
+mod forked;
+mod sweep;
+mod worker;
+
+pub use forked::Solved;
+pub use worker::Worker;
