@@ -5,5 +5,5 @@ mod forked;
 mod sweep;
 mod worker;
 
-pub use forked::Solved;
+pub use forked::{Solved, solve};
 pub use worker::Worker;
