@@ -1,5 +1,5 @@
 -- The workers of a table, as they are made, run and joined.
-use Rattle.std.proofs.Common.{◌≡◌, ◌≢◌, ◌⊎◌, inl, inr, ℕ, zero, suc, ◌+◌, ◌-◌, ◌*◌, ◌/◌, ◌%◌, ◌<◌, ◌≤◌, Bool, true, false, IsTrue, List, [], ◌∷◌, ◌++◌, length, get_or, set, refl, sym, ap, subst, arith, ◌∙◌, sum_by, length-append}
+use Rattle.std.proofs.Common.{◌≡◌, inl, inr, ℕ, suc, ◌+◌, ◌-◌, ◌*◌, ◌/◌, ◌<◌, ◌≤◌, IsTrue, List, [], ◌∷◌, ◌++◌, length, get_or, set, refl, sym, ap, subst, arith, ◌∙◌, sum_by, length-append}
 use Rattle.std.specs.List.{All}
 use Rattle.std.specs.Int.{bit_at}
 use Rattle.std.proofs.lemmas.Bool.{cases_lt}
@@ -11,12 +11,11 @@ use Rattle.atomic_table.specs.Seated.{TableId}
 use Rattle.rh_system.specs.declared.system.Row.{Row}
 use Rattle.rh_system.specs.Bits.{bits_in, bit_count, IsSubword}
 use Rattle.rh_system.specs.Rows.{IsCovered, IsGreatest, HoldsGreatest}
-use Rattle.rh_system.proofs.Supports.{greatest_from, bits_in_same, bit_inside}
+use Rattle.rh_system.proofs.Supports.{greatest_from, bit_inside}
 use Rattle.rh_system.proofs.OneRound.{full_holds}
 use Rattle.rh_core.proofs.Lists.{by_place}
 use Rattle.rh_core.proofs.Keeps.{wider}
 use Rattle.rh_edge_words.specs.declared.view.View.{View}
-use Rattle.rh_edge_words.specs.Views.{after_look, both_views, poorer, new_view}
 use Rattle.rh_edge_words.specs.Seated.{SplitsView, JoinsView}
 use Rattle.rh_engine.specs.Crew.{Seen, IsCrew, HasRun}
 

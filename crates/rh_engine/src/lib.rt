@@ -3,6 +3,8 @@
 
 mod forked;
 mod sweep;
+#[cfg(test)]
+mod tests;
 mod worker;
 
 pub use forked::{Solved, solve};

@@ -1,6 +1,6 @@
-use Rattle.std.proofs.Common.{◌≡◌, ◌+◌, ◌≤◌, List, ap, sym, subst, arith}
-use Rattle.rh_engine.specs.Crew.{Seen, IsCrew}
-use Rattle.rh_engine.proofs.Crews.{Gathers, gathers_none, gathers_more, gathers_all}
+use Rattle.std.proofs.Common.{◌+◌, ◌≤◌, List, sym, subst, arith}
+use Rattle.rh_engine.specs.Crew.{Seen}
+use Rattle.rh_engine.proofs.Crews.{Gathers, gathers_none, gathers_more}
 use Rattle.rh_engine.proofs.forked.crew.Goals as goal
 
 pub loop-id-init : goal.loop-id-init

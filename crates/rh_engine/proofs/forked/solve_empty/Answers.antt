@@ -1,4 +1,4 @@
-use Rattle.std.proofs.Common.{◌≡◌, ◌∙◌, ℕ, List, [], subst}
+use Rattle.std.proofs.Common.{◌≡◌, ℕ, List, [], subst}
 use Rattle.std.proofs.lemmas.List.{nil_from_length}
 use Rattle.rh_system.specs.Rows.{IsCovered}
 use Rattle.rh_engine.proofs.Crews.{empty_greatest}

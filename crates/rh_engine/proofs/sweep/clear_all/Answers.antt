@@ -1,4 +1,4 @@
-use Rattle.std.proofs.Common.{◌≡◌, ◌∙◌, refl, arith}
+use Rattle.std.proofs.Common.{◌∙◌, refl, arith}
 use Rattle.std.proofs.lemmas.Bool.Decides.{when_true, when_false}
 use Rattle.rh_engine.proofs.Fewer.{clears_nothing, clears_more, clears_kept, clears_all}
 use Rattle.rh_engine.proofs.sweep.clear_all.Goals as goal
