@@ -1,0 +1,4 @@
+pub mod State
+pub mod Moves
+pub mod Events
+pub mod WordsLaw

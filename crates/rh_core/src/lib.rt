@@ -1,0 +1,11 @@
+//! The pure core of the solver: workers that clear shared words, one event at a time.
+#![tactic(auto)]
+
+mod event;
+mod pure;
+#[cfg(test)]
+mod tests;
+mod worker;
+
+pub use event::Event;
+pub use pure::{Core, words_law};

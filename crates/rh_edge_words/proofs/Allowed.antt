@@ -1,0 +1,121 @@
+-- Each step of a seat keeps the rule.
+use Rattle.std.proofs.Common.{◌≡◌, ℕ, ◌+◌, ◌^◌, ◌<◌, ◌≤◌, List, length, get_or, set, map, bit_and, refl, sym, ap, subst, arith, sum_by, length-set}
+use mathlib.Core.Option.{some, none}
+use lib.ListN.{get_elem?}
+use Rattle.std.specs.Int.{bit_at}
+use Rattle.std.proofs.lemmas.List.{set-get_or}
+use Rattle.std.proofs.lemmas.List.Sums.{get_or-le-sum_by}
+use Rattle.std.proofs.lemmas.Nat.Bits.{bit_at-lt}
+use Rattle.atomic_table.specs.Table.{State, Me, step, keeps, Allows}
+use Rattle.atomic_table.proofs.Lists.{set_here}
+use Rattle.rh_system.specs.Bits.{IsSubword}
+use Rattle.rh_core.specs.State.{WorkerState, spent, worker_at}
+use Rattle.rh_core.specs.Moves.{saw, took, taken, MayClear}
+use Rattle.rh_core.specs.WordsLaw.{KeepsWords}
+use Rattle.rh_core.proofs.Lists.{parted, live_inside}
+use Rattle.rh_core.proofs.Keeps.{load_keeps, and_keeps}
+use Rattle.rh_edge_words.specs.declared.view.View.{View}
+use Rattle.rh_edge_words.specs.Meaning.{Meaning}
+use Rattle.rh_edge_words.specs.Views.{worker_of, after_look, after_load, after_clear}
+use Rattle.rh_edge_words.specs.Rule.{core_of, IsTallied, KeepsTable}
+use Rattle.rh_edge_words.specs.Steps.{Finds, Looks, Loads, Clears}
+use Rattle.rh_edge_words.proofs.Tables.{at_view, worker_is, live_at, knows, stake_fits, tally, step_keeps}
+use Rattle.rh_edge_words.proofs.Tallies.{same_tally, clear_tally}
+
+module _ {S : Type 0} (m : Meaning) where
+  -- the core after a load
+  read_core : (s : State S View) (id word : ℕ) (v : View) → KeepsTable m s → get_elem? s.views id ≡ some v → 0 < v.stake → word < length m.full
+      → KeepsWords m.full m.rows record { words = set s.words word (get_or s.words word 0); workers = set (map worker_of s.views) id (saw (worker_of v) word (get_or s.words word 0)) }
+  read_core s id word v kept e some_stake inside =
+      let long : length s.words ≡ length m.full = kept.core.as_long in
+      let moved = load_keeps (core_of s) id word kept.core (live_at s.words s.views id v e some_stake) (omega arith) in
+      let P : List ℕ → WorkerState → Type 0 =
+      λ ws w. KeepsWords m.full m.rows record { words = ws; workers = set (map worker_of s.views) id (saw w word (get_or s.words word 0)) } in
+      subst (λ (ws : List ℕ). P ws (worker_of v)) (sym (set-get_or s.words word 0)) (subst (P s.words) (worker_is s.words s.views id v e) moved)
+
+  within_seen : (s : State S View) (id word : ℕ) (v : View) → KeepsTable m s → get_elem? s.views id ≡ some v → 0 < v.stake → IsSubword (get_or s.words word 0) (get_or v.seen word 0)
+  within_seen s id word v kept e some_stake =
+      subst (λ (w : WorkerState). IsSubword (get_or s.words word 0) (get_or w.seen word 0)) (worker_is s.words s.views id v e)
+      ((kept.core.seen id (live_at s.words s.views id v e some_stake)).within word)
+
+  -- what the seat finds, from the state after the step
+  found : (s : State S View) (words : List ℕ) (id word : ℕ) (v w : View) → KeepsTable m s → get_elem? s.views id ≡ some v → 0 < v.stake → w.stake ≡ v.stake
+      → KeepsTable {S = S} m record { words = words; homes = s.homes; views = set s.views id w } → Finds m word v (get_or s.words word 0) w
+  found s words id word v w kept e some_stake same after =
+      let here : get_elem? (set s.views id w) id ≡ some w = set_here s.views id w ((at_view s.views id v e).0) in
+      let tallied : IsTallied m.full w = tally m record { words = words; homes = s.homes; views = set s.views id w } id w after here in
+      let fits : w.stake ≤ 16 = stake_fits m record { words = words; homes = s.homes; views = set s.views id w } id w after here in
+      record {
+        within = within_seen s id word v kept e some_stake;
+        greatest = knows m record { words = words; homes = s.homes; views = set s.views id w } id w after here (omega arith);
+        stake = fits;
+        fit = tallied.fit;
+        counted = tallied.counted;
+      }
+
+  pub allows_look : (slots id word : ℕ) (me : Me S View) → 0 < me.0.stake → word < length m.full
+      → Allows (KeepsTable m) slots id me word (λ n. n) (Looks m (step slots word 0 0 none) me)
+  allows_look slots id word me some_stake inside s kept homes e small =
+      let v = me.0 in
+      let n : ℕ = get_or s.words word 0 in
+      let w : View = after_look v word n in
+      let after = step_keeps m s (set s.words word n) id v w kept e refl (same_tally m.full v w (tally m s id v kept e) some_stake some_stake refl refl refl) (read_core s id word v kept e some_stake inside) in
+      (w, keeps, tt, after, record { view = refl; carried = refl; finds = found s (set s.words word n) id word v w kept e some_stake refl after })
+
+  pub allows_load : (slots id word : ℕ) (me : Me S View) → 0 < me.0.stake → word < length m.full
+      → Allows (KeepsTable m) slots id me word (λ n. n) (Loads m (step slots word 0 0 none) me)
+  allows_load slots id word me some_stake inside s kept homes e small =
+      let v = me.0 in
+      let n : ℕ = get_or s.words word 0 in
+      let w : View = after_load v word n in
+      let after = step_keeps m s (set s.words word n) id v w kept e refl (same_tally m.full v w (tally m s id v kept e) some_stake some_stake refl refl (length-set v.loads word (get_or v.loads word 0 + 1))) (read_core s id word v kept e some_stake inside) in
+      (w, keeps, tt, after, record { view = refl; carried = refl; finds = found s (set s.words word n) id word v w kept e some_stake refl after })
+
+  -- ---- clear
+
+  cleared_core : (s : State S View) (id word mask : ℕ) (v : View) → KeepsTable m s → get_elem? s.views id ≡ some v → 0 < v.stake → word < length m.full → mask < 2 ^ 64 → MayClear m.rows v.seen word mask
+      → KeepsWords m.full m.rows record { words = set s.words word (bit_and (get_or s.words word 0) mask); workers = set (map worker_of s.views) id (took (worker_of v) word (get_or s.words word 0) mask) }
+  cleared_core s id word mask v kept e some_stake inside fits may =
+      let long : length s.words ≡ length m.full = kept.core.as_long in
+      let is = worker_is s.words s.views id v e in
+      let may' : MayClear m.rows (worker_at (core_of s) id).seen word mask = subst (λ (w : WorkerState). MayClear m.rows w.seen word mask) (sym is) may in
+      let moved = and_keeps (core_of s) id word mask kept.core (live_at s.words s.views id v e some_stake) (omega arith) fits may' in
+      subst
+      (λ (w : WorkerState). KeepsWords m.full m.rows record { words = set s.words word (bit_and (get_or s.words word 0) mask); workers = set (map worker_of s.views) id (took w word (get_or s.words word 0) mask) })
+      is moved
+
+  -- what is taken is not in the seat's credits yet
+  taken_apart : (s : State S View) (id word mask place : ℕ) (v : View) → KeepsTable m s → get_elem? s.views id ≡ some v → 0 < v.stake → mask < 2 ^ 64 → place < 64
+      → bit_at (get_or v.credits word 0) place + bit_at (taken (get_or s.words word 0) mask) place ≤ 1
+  taken_apart s id word mask place v kept e some_stake fits small =
+      let is = worker_is s.words s.views id v e in
+      let f : WorkerState → ℕ = λ w. bit_at (get_or w.credits word 0) place in
+      let own : f (worker_at (core_of s) id) ≤ sum_by f (map worker_of s.views) =
+      get_or-le-sum_by f (map worker_of s.views) id spent (live_inside (core_of s) id (live_at s.words s.views id v e some_stake)) in
+      let same : f (worker_at (core_of s) id) ≡ bit_at (get_or v.credits word 0) place = ap f is in
+      let once : bit_at (get_or s.words word 0) place + sum_by f (map worker_of s.views) ≡ bit_at (get_or m.full word 0) place = kept.core.once word place small in
+      let one = bit_at-lt (get_or m.full word 0) place in
+      let shared : bit_at (bit_and (get_or s.words word 0) mask) place + bit_at (taken (get_or s.words word 0) mask) place ≡ bit_at (get_or s.words word 0) place = parted (get_or s.words word 0) mask place fits small in
+      omega arith
+
+  pub allows_clear : (slots id word mask : ℕ) (me : Me S View) → 0 < me.0.stake → word < length m.full → mask < 2 ^ 64 → MayClear m.rows me.0.seen word mask
+      → Allows (KeepsTable m) slots id me word (λ n. bit_and n mask) (Clears m (step slots word mask 0 none) me)
+  allows_clear slots id word mask me some_stake inside fits may s kept homes e small =
+      let v = me.0 in
+      let n : ℕ = get_or s.words word 0 in
+      let w : View = after_clear v word mask n in
+      let long : length v.credits ≡ length s.words =
+      subst (λ (x : WorkerState). length x.credits ≡ length s.words) (worker_is s.words s.views id v e) (kept.core.seen id (live_at s.words s.views id v e some_stake)).credits_as_long in
+      let words_long : length s.words ≡ length m.full = kept.core.as_long in
+      let tallied : IsTallied m.full w = clear_tally m.full v word mask n (tally m s id v kept e) some_stake (omega arith) small (λ place below. taken_apart s id word mask place v kept e some_stake fits below) in
+      let after = step_keeps m s (set s.words word (bit_and n mask)) id v w kept e refl tallied (cleared_core s id word mask v kept e some_stake inside fits may) in (
+        w,
+        keeps,
+        tt,
+        after,
+        record {
+          view = refl;
+          carried = refl;
+          finds = found s (set s.words word (bit_and n mask)) id word v w kept e some_stake refl after;
+        },
+      )

@@ -1,0 +1,26 @@
+-- The rule of the table: between any two steps its words and views are a state that keeps the words law, and stakes, loads and counts are in order.
+use Rattle.std.specs.Prelude.{ℕ, ◌^◌, ◌<◌, ◌≡◌, List, [], length, slice_index, slice_index_or, sum_by, map}
+use Rattle.atomic_table.specs.Table.{State}
+use Rattle.rh_system.specs.Bits.{bit_count}
+use Rattle.rh_core.specs.State.{CoreState}
+use Rattle.rh_core.specs.WordsLaw.{KeepsWords}
+use Rattle.rh_edge_words.specs.declared.view.View.{View}
+use Rattle.rh_edge_words.specs.Meaning.{Meaning}
+use Rattle.rh_edge_words.specs.Views.{worker_of, spent_view}
+
+-- the state of the solver that the table is
+abbrev pub core_of : {S : Type 0} → State S View → CoreState
+core_of s = record { words = s.words; workers = map worker_of s.views }
+
+-- A seat counts its loads of each word and the bits in its credits. A spent one has no loads
+pub record IsTallied (full : List ℕ) (v : View) : Type 0 where
+  pub loads : 0 < v.stake → length v.loads ≡ length full
+  pub no_loads : v.stake ≡ 0 → v.loads ≡ []
+  pub fit : (word : ℕ) → slice_index v.credits word < 2 ^ 64
+  pub counted : v.count ≡ bit_count v.credits
+
+pub record KeepsTable {S : Type 0} (m : Meaning) (s : State S View) : Type 0 where
+  pub core : KeepsWords m.full m.rows (core_of s)
+  -- the stakes of all seats add up to 16
+  pub stakes : sum_by (λ v. v.stake) s.views ≡ 16
+  pub tallied : (id : ℕ) → IsTallied m.full (slice_index_or s.views id spent_view)

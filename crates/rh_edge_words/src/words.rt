@@ -1,0 +1,214 @@
+//! The words that threads share.
+ghost use Rattle.std.specs.Prelude.{◌≡◌, ◌+◌, ◌<◌, ◌≤◌, ◌^◌, ℕ, IfOk, OnErr, length, slice_index};
+ghost use Rattle.rh_system.specs.Bits.{IsSubword, bit_count};
+ghost use Rattle.rh_system.specs.Rows.{HoldsGreatest, IsGreatest};
+ghost use Rattle.rh_core.specs.Moves.{MayClear};
+ghost use Rattle.rh_edge_words.specs.Seated.{IsNameOf, SplitsView, JoinsView};
+ghost use Rattle.rh_edge_words.specs.Views.{first_view, after_look, after_load, after_clear, poorer, new_view};
+
+use crate::rule::{Clearing, Halves, Loading, Looking, SystemName, Unites, WordsRule};
+use crate::seat::WordSeat;
+use crate::view::View;
+use atomic_table::Table;
+use rh_system::{System, full_words};
+use std::alloc::{AllocError, Global};
+use std::marker::{Model, PhantomData};
+
+/// A law: what a slice of words holds fits a word.
+fn all_fit(words: &[u64])
+    ensures { (k : ℕ) → slice_index words.now k < 2 ^ 64 }
+{}
+
+/// The words of a system in a table that threads share. Contracts see it as the table and the
+/// system.
+#[derive(Drop)]
+pub struct EdgeWords<'s, S: System, N: SystemName> {
+    system: &'s S,
+    table: Table<(), View, (), WordsRule<N>, Global>,
+}
+
+impl<'s, S: System, N: SystemName> Model for EdgeWords<'s, S, N> {
+    ghost use Rattle.std.specs.Prelude.{◌≡◌};
+    ghost use Rattle.atomic_table.specs.Seated.{TableId, table_id_coded};
+
+    ghost Value = { TableId × S };
+
+    ghost use Rattle.rh_edge_words.specs.Seated.{IsTableOf};
+
+    ghost view = { λ t. (t.table.shared.table_id, t.system.now) };
+
+    ghost invariant = { λ t. IsTableOf N.meaning t.table.shared.table_id.words t.table.shared.table_id.slots (S.full_words t.system.now) × (N.meaning.rows ≡ S.rows t.system.now) };
+}
+
+impl<'s, S: System, N: SystemName> EdgeWords<'s, S, N> {
+    /// A table with the full words, and its one seat, which has seen them.
+    pub fn new(
+        alloc: Global,
+        system: &'s S,
+    ) -> Result<(EdgeWords<'s, S, N>, WordSeat<N>), AllocError>
+        requires full { N.meaning.full ≡ S.full_words system.now }
+        requires rows { N.meaning.rows ≡ S.rows system.now }
+        requires some { 0 < length (S.full_words system.now) }
+        ensures { IfOk result (λ made. (made.0.1 ≡ system.now) × (made.1.0 ≡ made.0.0) × (made.1.1 ≡ first_view N.meaning.full)) }
+    {
+        // so that their number fits a u32
+        let _few = system.words();
+        let words = full_words(alloc, system)?;
+        all_fit(words.as_slice());
+        let (table, seat) = Table::of_words(alloc, words.as_slice(), &())?;
+        let table = EdgeWords { system, table };
+        let seat = WordSeat {
+            seat,
+            copy: words,
+            cleared: 0,
+            stake: 16,
+            name: PhantomData,
+        };
+        Ok((table, seat))
+    }
+
+    /// The system.
+    pub fn system(&self) -> &S
+        ensures { result.now ≡ self.now.1 }
+    {
+        self.system
+    }
+
+    /// How many words there are.
+    pub fn count(&self) -> u32
+        ensures { result ≡ length N.meaning.full }
+    {
+        self.system.words()
+    }
+
+    /// A law: the name is one of the system.
+    pub fn is_named(&self)
+        ensures { IsNameOf N.meaning (S.full_words self.now.1) (S.rows self.now.1) }
+    {
+        let _ = &self.table;
+    }
+
+    /// Loads a word.
+    pub fn load(&self, seat: &mut WordSeat<N>, word: u32) -> u64
+        requires table { seat.old.0 ≡ self.now.0 }
+        requires in_range { word < length N.meaning.full }
+        ensures table { seat.new.0 ≡ seat.old.0 }
+        ensures view { seat.new.1 ≡ after_load seat.old.1 word result }
+        ensures within { IsSubword result (slice_index seat.old.1.seen word) }
+        ensures greatest { HoldsGreatest N.meaning.rows seat.new.1.seen }
+    {
+        let found = self
+            .table
+            .shared
+            .load::<Loading<N>>(&mut seat.seat, word as usize);
+        seat.copy[word as usize] = found;
+        found
+    }
+
+    /// Clears the bits of a word that the mask leaves out, and answers the word as it was.
+    pub fn clear(&self, seat: &mut WordSeat<N>, word: u32, mask: u64) -> u64
+        requires table { seat.old.0 ≡ self.now.0 }
+        requires in_range { word < length N.meaning.full }
+        requires lawful { MayClear N.meaning.rows seat.old.1.seen word mask }
+        ensures table { seat.new.0 ≡ seat.old.0 }
+        ensures view { seat.new.1 ≡ after_clear seat.old.1 word mask result }
+        ensures within { IsSubword result (slice_index seat.old.1.seen word) }
+        ensures greatest { HoldsGreatest N.meaning.rows seat.new.1.seen }
+    {
+        let found = self
+            .table
+            .shared
+            .fetch_and::<Clearing<N>>(&mut seat.seat, word as usize, mask);
+        seat.cleared += u64::from((found & !mask).count_ones());
+        seat.copy[word as usize] = found & mask;
+        found
+    }
+
+    /// Reads word 0, which counts as no load.
+    fn look_first(&self, seat: &mut WordSeat<N>) -> u64
+        requires table { seat.old.0 ≡ self.now.0 }
+        ensures table { seat.new.0 ≡ seat.old.0 }
+        ensures view { seat.new.1 ≡ after_look seat.old.1 0 result }
+        ensures within { IsSubword result (slice_index seat.old.1.seen 0) }
+        ensures some { 0 < length seat.old.1.seen }
+    {
+        let found = self.table.shared.load::<Looking<N>>(&mut seat.seat, 0);
+        seat.copy[0] = found;
+        found
+    }
+
+    /// Makes a second seat, with one of the stake and the same words seen. The memory for its copy
+    /// is taken before any step, and word 0 is read before the view is cut in two.
+    pub fn split(&self, alloc: Global, seat: &mut WordSeat<N>) -> Result<WordSeat<N>, AllocError>
+        requires table { seat.old.0 ≡ self.now.0 }
+        requires stake { 2 ≤ seat.old.1.stake }
+        ensures table { seat.new.0 ≡ seat.old.0 }
+        ensures ok { IfOk result (λ new. (new.0 ≡ seat.old.0) × SplitsView seat.old.1 seat.new.1 new.1) }
+        ensures err { OnErr result (seat.new ≡ seat.old) }
+    {
+        let mut copy = Vec::from_slice(alloc, seat.copy.as_slice())?;
+        let found = self.look_first(seat);
+        copy[0] = found;
+        Ok(self.divide(seat, copy))
+    }
+
+    fn divide(&self, seat: &mut WordSeat<N>, copy: Vec<u64>) -> WordSeat<N>
+        requires table { seat.old.0 ≡ self.now.0 }
+        requires stake { 2 ≤ seat.old.1.stake }
+        requires copy { copy.items ≡ seat.old.1.seen }
+        ensures old { seat.new ≡ (seat.old.0, poorer seat.old.1) }
+        ensures new { result ≡ (seat.old.0, new_view seat.old.1) }
+    {
+        let part = self.table.shared.split_seat::<Halves>(&mut seat.seat);
+        seat.stake -= 1;
+        WordSeat {
+            seat: part,
+            copy,
+            cleared: 0,
+            stake: 1,
+            name: PhantomData,
+        }
+    }
+
+    /// Takes in another seat: credits, counts, stakes and loads add up. Then word 0 is read.
+    pub fn join(&self, seat: &mut WordSeat<N>, other: WordSeat<N>)
+        requires table { seat.old.0 ≡ self.now.0 }
+        requires other_table { other.0 ≡ self.now.0 }
+        ensures table { seat.new.0 ≡ seat.old.0 }
+        ensures joined { JoinsView seat.old.1 other.1 seat.new.1 }
+    {
+        let WordSeat {
+            seat: part,
+            copy: _,
+            cleared,
+            stake,
+            name: _,
+        } = other;
+        self.table.shared.join_seat::<Unites>(&mut seat.seat, part);
+        let found = self.table.shared.load::<Looking<N>>(&mut seat.seat, 0);
+        seat.copy[0] = found;
+        seat.cleared += cleared;
+        seat.stake += stake;
+    }
+
+    /// Ends the table, and hands out the words as the seat saw them last.
+    pub fn close(self, seat: WordSeat<N>) -> Vec<u64>
+        requires table { seat.0 ≡ self.0 }
+        requires stake { seat.1.stake ≡ 16 }
+        ensures copy { result.items ≡ seat.1.seen }
+        ensures count { IsGreatest N.meaning.rows result.items → bit_count seat.1.credits + bit_count result.items ≡ bit_count N.meaning.full }
+    {
+        let EdgeWords { system: _, table } = self;
+        let WordSeat {
+            seat: last,
+            copy,
+            cleared: _,
+            stake: _,
+            name: _,
+        } = seat;
+        all_fit(copy.as_slice());
+        let closed = table.close_with(last);
+        closed.free();
+        copy
+    }
+}

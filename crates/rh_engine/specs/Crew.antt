@@ -1,0 +1,24 @@
+-- The workers of a table.
+use Rattle.std.specs.Prelude.{ℕ, ◌+◌, ◌<◌, ◌≤◌, ◌≡◌, List, length, sum_by}
+use Rattle.std.specs.List.{All}
+use Rattle.atomic_table.specs.Seated.{TableId}
+use Rattle.rh_system.specs.declared.system.Row.{Row}
+use Rattle.rh_system.specs.Bits.{bit_count}
+use Rattle.rh_system.specs.Rows.{IsGreatest}
+use Rattle.rh_edge_words.specs.declared.view.View.{View}
+
+-- a worker as contracts see it: the table and the view of its seat, and its turns
+abbrev pub Seen : Type 0
+Seen = TableId × View × ℕ
+
+-- so many workers have seats of the table, with the whole stake
+pub record IsCrew (table : TableId) (workers : ℕ) (crew : List Seen) : Type 0 where
+  pub many : length crew ≡ workers
+  pub tables : All (λ w. w.0 ≡ table) crew
+  pub stakes : sum_by (λ w. w.1.stake) crew ≡ 16
+
+-- the worker has come to its end in one turn or more, and at most one more than there are bits
+pub record HasRun (full : List ℕ) (rows : List Row) (w : Seen) : Type 0 where
+  pub greatest : IsGreatest rows w.1.seen
+  pub some : 0 < w.2
+  pub few : w.2 ≤ bit_count full + 1

@@ -1,0 +1,4 @@
+pub mod Supports
+pub mod Parts
+pub mod OneRound
+pub mod OneGreatest
