@@ -4,7 +4,7 @@ use Rattle.std.proofs.lemmas.Bool.{and_parts, and_from, or_cases, or_left, or_ri
 use Rattle.rh_grammar.specs.declared.grammar.Symbol.{Symbol}
 use Rattle.rh_grammar.specs.declared.grammar.Symbol.TheVariants.{Token, Rule}
 use Rattle.rh_grammar.specs.declared.grammar.Grammar.{Grammar}
-use Rattle.rh_grammar.specs.Tables.{choice, empty, production_at, chosen, weight}
+use Rattle.rh_grammar.specs.Tables.{choice, empty, production_at, rules_of, chosen, weight}
 use Rattle.rh_grammar.specs.Derivation.{Derives, done, token, expand}
 use Rattle.rh_grammar.specs.Deterministic.{Evidence, vanishes, begins, load, AreFollowed, IsDeterministic}
 use Rattle.rh_grammar.specs.Parsing.{IsContext}
@@ -49,7 +49,7 @@ module _ (g : Grammar) (e : Evidence) (d : IsDeterministic g e) where
       (begins_append g to α class head)
 
   -- derived tokens have a front that the symbols may derive
-  pub head_of : {α : List Symbol} {qs tokens : List ℕ} → Derives g α qs tokens → HasHead g α tokens
+  pub head_of : {α : List Symbol} {qs tokens : List ℕ} → Derives (rules_of g) α qs tokens → HasHead g α tokens
   head_of done = refl
   head_of (token {class = class} rest) = eq-eqb class class refl
   head_of (expand {rule = rule} {p = p} {symbols = α} {to = to} {tokens = tokens} h rest) =
@@ -78,7 +78,7 @@ module _ (g : Grammar) (e : Evidence) (d : IsDeterministic g e) where
   chosen_empty rule class p none e = rw (none, e) refl
 
   -- at a token the replacement is the one of the table
-  pub predicted : (rule class : ℕ) (α : List Symbol) (tokens : List ℕ) → IsContext g e (Rule rule ∷ α) → (x : Expands g rule α (class ∷ tokens)) → chosen g rule class ≡ Some x.number
+  pub predicted : (rule class : ℕ) (α : List Symbol) (tokens : List ℕ) → IsContext g e (Rule rule ∷ α) → (x : Expands (rules_of g) rule α (class ∷ tokens)) → chosen g rule class ≡ Some x.number
   predicted rule class α tokens context x =
       let one = d.decided x.number rule x.to x.production in
       ⊎_elim (λ here. chosen_first rule class x.number (one.chosen class here))
@@ -88,7 +88,7 @@ module _ (g : Grammar) (e : Evidence) (d : IsDeterministic g e) where
       (begins_append g x.to α class (head_of x.derives))
 
   -- at the end it is the one of no symbols
-  pub predicted_end : (rule : ℕ) (α : List Symbol) → (x : Expands g rule α []) → empty g rule ≡ Some x.number
+  pub predicted_end : (rule : ℕ) (α : List Symbol) → (x : Expands (rules_of g) rule α []) → empty g rule ≡ Some x.number
   predicted_end rule α x =
       (d.decided x.number rule x.to x.production).vanishing (vanishes_append g x.to α (head_of x.derives)).0
 

@@ -1,5 +1,5 @@
 -- A grammar that passes the test is decided by one token, and each nonterminal derives something.
-use Rattle.std.proofs.Common.{◌≡◌, ℕ, zero, suc, ◌+◌, ◌<◌, Bool, true, false, ◌&&◌, eqb, List, [], ◌∷◌, length, Option, Some, None, is_some, refl, sym, ap, ◌∙◌, subst, arith, ⊎_elim}
+use Rattle.std.proofs.Common.{◌≡◌, ℕ, zero, suc, ◌+◌, ◌<◌, Bool, true, false, ◌&&◌, eqb, List, [], ◌∷◌, length, map, Option, Some, None, is_some, refl, sym, ap, ◌∙◌, subst, arith, ⊎_elim}
 use Rattle.std.proofs.lemmas.Bool.{and_parts, or_cases, false≢true, ltb-true, leb-true, eqb-true, cases_lt}
 use Rattle.std.specs.Prelude.{slice_get, slice_index, is_none, nat_lt, nat_le}
 use Rattle.std.specs.Option.{option_and_then, option_map}
@@ -36,6 +36,11 @@ none_is (Some n) h = absurd (false≢true h)
 
 some_is : {X : Type 0} (x y : X) → ◌≡◌ {A = Option X} (Some x) (Some y) → x ≡ y
 some_is x y e = cc
+
+slice_get-map : {X Y : Type 0} (f : X → Y) (xs : List X) (i : ℕ) → slice_get (map f xs) i ≡ option_map f (slice_get xs i)
+slice_get-map f [] i = refl
+slice_get-map f (x ∷ xs) zero = refl
+slice_get-map f (x ∷ xs) (suc i) = slice_get-map f xs i
 
 -- a row is read only below its length
 read_below : {X : Type 0} (xs : List X) (i : ℕ) (x : X) → slice_get xs i ≡ Some x → i < length xs
@@ -162,8 +167,8 @@ module _ (g : Grammar) (t : Tables) (parts : Parts g t) where
       subst (λ (q : ℕ × List Symbol). IsDecided g (evidence_of t) p q.0 q.1) pair (decided_from p one.of one.to.now passes)
 
   decided : (p rule : ℕ) (to : List Symbol) → production_at g p ≡ Some (rule, to) → IsDecided g (evidence_of t) p rule to
-  unfolding production_at
-  decided p rule to h = decided_read p rule to (slice_get g.productions.now p) refl h
+  decided p rule to h =
+      decided_read p rule to (slice_get g.productions.now p) refl (sym (slice_get-map (λ (q : Production). (q.of, q.to.now)) g.productions.now p) ∙ h)
 
   of_from : (p rule : ℕ) (o : Option (ℕ × List Symbol)) → production_at g p ≡ o → is_of o rule ≡ true → IsProductionOf g rule p
   of_from p rule None h is = absurd (false≢true is)

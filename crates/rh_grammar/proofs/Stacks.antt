@@ -6,7 +6,7 @@ use Rattle.std.specs.Prelude.{slice_get}
 use Rattle.rh_grammar.specs.declared.grammar.Symbol.{Symbol}
 use Rattle.rh_grammar.specs.declared.grammar.Symbol.TheVariants.{Token, Rule}
 use Rattle.rh_grammar.specs.declared.grammar.Grammar.{Grammar}
-use Rattle.rh_grammar.specs.Tables.{production_at, chosen, empty}
+use Rattle.rh_grammar.specs.Tables.{production_at, rules_of, chosen, empty}
 use Rattle.rh_grammar.specs.Stack.{Pushes}
 use Rattle.rh_grammar.specs.Deterministic.{Evidence, IsDeterministic, load}
 use Rattle.rh_grammar.specs.Parsing.{IsTop, IsNextRule, IsParsed, IsStuck, Any, Next, End}
@@ -117,12 +117,12 @@ stuck_on_top g e d start class tokens old ps not_top stopped parsed =
 
 -- at the end of the tokens: the symbol that is popped, and what is left
 module _ (g : Grammar) (e : Evidence) (d : IsDeterministic g e) (start : ℕ) (tokens ps : List ℕ) (old new : List Symbol) (n : ℕ) (len : n ≡ length old) (left : new ≡ take (n - 1) old) (parsed : IsParsed g e start End tokens (reverse old) ps) where
-  pub end_token : (class : ℕ) → IsTop old (Some (Token class)) → IsSyntaxFault g start tokens (length tokens)
+  pub end_token : (class : ℕ) → IsTop old (Some (Token class)) → IsSyntaxFault (rules_of g) start tokens (length tokens)
   end_token class top =
       let before = subst (λ s. IsParsed g e start End tokens s ps) top.1 parsed in
       fault_end g e d start tokens (Token class ∷ top.0) ps before (wanting_token g e d start class top.0)
 
-  pub end_rule : (rule : ℕ) → IsTop old (Some (Rule rule)) → empty g rule ≡ None → IsSyntaxFault g start tokens (length tokens)
+  pub end_rule : (rule : ℕ) → IsTop old (Some (Rule rule)) → empty g rule ≡ None → IsSyntaxFault (rules_of g) start tokens (length tokens)
   end_rule rule top none =
       let before = subst (λ s. IsParsed g e start End tokens s ps) top.1 parsed in
       fault_end g e d start tokens (Rule rule ∷ top.0) ps before (wanting_rule g e d start rule top.0 none)
@@ -134,7 +134,7 @@ module _ (g : Grammar) (e : Evidence) (d : IsDeterministic g e) (start : ℕ) (t
       subst (λ s. IsParsed g e start End tokens s qs) (sym (popped old new n (Rule rule) top.0 len left top.1))
       (subst (λ l. IsParsed g e start End tokens top.0 l) (sym taken) after)
 
-  pub end_all : reverse old ≡ [] → Derives g (Rule start ∷ []) ps tokens
+  pub end_all : reverse old ≡ [] → Derives (rules_of g) (Rule start ∷ []) ps tokens
   end_all none = derived g e d start tokens ps (subst (λ s. IsParsed g e start End tokens s ps) none parsed)
 
 -- what was popped was on top

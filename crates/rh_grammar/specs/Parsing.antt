@@ -1,4 +1,5 @@
 -- What a parser keeps true from token to token.
+use Rattle.rh_grammar.specs.Tables.{rules_of}
 use Rattle.std.specs.Prelude.{◌≡◌, ℕ, ◌<◌, Bool, true, false, List, [], ◌∷◌, ◌++◌, length, reverse, Option, Some, None}
 use Rattle.rh_grammar.specs.declared.grammar.Symbol.{Symbol}
 use Rattle.rh_grammar.specs.declared.grammar.Symbol.TheVariants.{Token, Rule}
@@ -28,14 +29,14 @@ Come End (other ∷ tokens) = ⊥
 
 -- The tokens so far were taken by productions, and the symbols are what is left to derive.
 pub record IsParsed (g : Grammar) (e : Evidence) (start : ℕ) (ahead : Ahead) (tokens : List ℕ) (symbols : List Symbol) (ps : List ℕ) : Type 0 where
-  pub sound : (qs more : List ℕ) → Derives g symbols qs more → Derives g (Rule start ∷ []) (ps ++ qs) (tokens ++ more)
-  pub complete : (qs more : List ℕ) → Come ahead more → Derives g (Rule start ∷ []) qs (tokens ++ more) → (rs : List ℕ) × Derives g symbols rs more
+  pub sound : (qs more : List ℕ) → Derives (rules_of g) symbols qs more → Derives (rules_of g) (Rule start ∷ []) (ps ++ qs) (tokens ++ more)
+  pub complete : (qs more : List ℕ) → Come ahead more → Derives (rules_of g) (Rule start ∷ []) qs (tokens ++ more) → (rs : List ℕ) × Derives (rules_of g) symbols rs more
   pub context : IsContext g e symbols
   pub known : AreKnown e symbols
 
 -- the symbols derive nothing that begins with the token
 abbrev pub IsStuck : Grammar → List Symbol → ℕ → Type 0
-IsStuck g symbols class = (rs more : List ℕ) → Derives g symbols rs (class ∷ more) → ⊥
+IsStuck g symbols class = (rs more : List ℕ) → Derives (rules_of g) symbols rs (class ∷ more) → ⊥
 
 -- the symbol with which those on a stack begin
 abbrev pub IsTop : List Symbol → Option Symbol → Type 0
@@ -62,9 +63,9 @@ Takes g class old ps false new qs =
 -- at the end of the tokens they are derived, or the fault is there
 abbrev pub Finishes : Grammar → List Symbol → List ℕ → Bool → List ℕ → Type 0
 Finishes g old ps true qs =
-    (e : Evidence) (start : ℕ) (tokens : List ℕ) → IsDeterministic g e → IsParsed g e start Any tokens (reverse old) ps → Derives g (Rule start ∷ []) qs tokens
+    (e : Evidence) (start : ℕ) (tokens : List ℕ) → IsDeterministic g e → IsParsed g e start Any tokens (reverse old) ps → Derives (rules_of g) (Rule start ∷ []) qs tokens
 Finishes g old ps false qs =
-    (e : Evidence) (start : ℕ) (tokens : List ℕ) → IsDeterministic g e → IsParsed g e start Any tokens (reverse old) ps → IsSyntaxFault g start tokens (length tokens)
+    (e : Evidence) (start : ℕ) (tokens : List ℕ) → IsDeterministic g e → IsParsed g e start Any tokens (reverse old) ps → IsSyntaxFault (rules_of g) start tokens (length tokens)
 
 -- the grammar is decided by one token, and the nonterminal is one of its
 abbrev pub IsParsable : Grammar → ℕ → Type 0

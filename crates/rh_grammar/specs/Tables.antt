@@ -1,7 +1,7 @@
 -- What the table of a grammar says.
 use Rattle.std.specs.Borrow.{Bor}
-use Rattle.std.specs.Prelude.{◌≡◌, ℕ, List, Option, Some, None, slice_get, unwrap_or}
-use Rattle.std.specs.Option.{option_and_then, option_map, option_or}
+use Rattle.std.specs.Prelude.{◌≡◌, ℕ, List, Option, Some, None, map, slice_get, unwrap_or}
+use Rattle.std.specs.Option.{option_and_then, option_or}
 use Rattle.rh_grammar.specs.declared.grammar.Symbol.{Symbol}
 use Rattle.rh_grammar.specs.declared.grammar.Grammar.{Grammar}
 
@@ -14,9 +14,13 @@ choice g rule class =
 unfoldable pub empty : Grammar → ℕ → Option ℕ
 empty g rule = option_and_then (λ p. p) (slice_get g.empties.now rule)
 
--- the production of a number: its nonterminal, and what replaces it
-unfoldable pub production_at : Grammar → ℕ → Option (ℕ × List Symbol)
-production_at g number = option_map (λ p. (p.of, p.to.now)) (slice_get g.productions.now number)
+-- the productions as a list: each its nonterminal, and what replaces it
+abbrev pub rules_of : Grammar → List (ℕ × List Symbol)
+rules_of g = map (λ p. (p.of, p.to.now)) g.productions.now
+
+-- the production of a number
+abbrev pub production_at : Grammar → ℕ → Option (ℕ × List Symbol)
+production_at g number = slice_get (rules_of g) number
 
 -- these are the symbols of a production, where there is one
 abbrev pub SymbolsOf : Option (Bor (List Symbol)) → Option (ℕ × List Symbol) → Type 0

@@ -59,7 +59,6 @@ impl Grammar<'_> {
     }
 
     /// What replaces the nonterminal of a production.
-    #[tactic(auto, unfolding(crate::specs::Tables::production_at))]
     pub(crate) fn symbols(&self, number: u8) -> Option<&[Symbol]>
         ensures { SymbolsOf result (production_at self.now number) }
     {

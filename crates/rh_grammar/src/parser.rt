@@ -4,6 +4,7 @@ ghost use Rattle.std.specs.Prelude.{◌≡◌, ◌≤◌, ◌<◌, [], ◌∷◌
 ghost use Rattle.rh_grammar.specs.declared.grammar.Symbol.TheVariants.{Rule};
 ghost use Rattle.rh_grammar.specs.declared.parser.ParseFault.TheVariants.{NoMemory};
 ghost use Rattle.rh_grammar.specs.Derivation.{Derives, FaultsAs};
+ghost use Rattle.rh_grammar.specs.Tables.{rules_of};
 ghost use Rattle.rh_grammar.specs.Stack.{Pushes};
 ghost use Rattle.rh_grammar.specs.Parsing.{IsTop, IsNextRule, Settles, Takes, Finishes, IsParsable};
 ghost use Rattle.rh_grammar.specs.Deterministic.{Evidence, IsDeterministic};
@@ -145,8 +146,8 @@ pub fn parse(
     tokens: &[u8],
 ) -> Result<Vec<u8>, ParseFault>
     requires { IsParsable grammar.now rule }
-    ensures derives { IfOk result (λ taken. Derives grammar.now (Rule rule ∷ []) taken.items tokens.now) }
-    ensures fault { IfErr result (FaultsAs grammar.now rule tokens.now) }
+    ensures derives { IfOk result (λ taken. Derives (rules_of grammar.now) (Rule rule ∷ []) taken.items tokens.now) }
+    ensures fault { IfErr result (FaultsAs (rules_of grammar.now) rule tokens.now) }
 {
     let mut stack = Vec::new(alloc);
     let mut taken = Vec::new(alloc);

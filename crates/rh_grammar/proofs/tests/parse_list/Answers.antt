@@ -1,5 +1,5 @@
 use Rattle.std.proofs.Common.{true, false, [], ◌∷◌, refl, arith}
-use Rattle.rh_grammar.specs.Tables.{choice, empty, weight, production_at}
+use Rattle.rh_grammar.specs.Tables.{choice, empty, weight}
 use Rattle.rh_grammar.specs.Test.{Tables}
 use Rattle.rh_grammar.proofs.Passing.{parsable}
 use Rattle.rh_grammar.proofs.tests.parse_list.Goals as goal
@@ -14,5 +14,5 @@ tables = record {
 }
 
 pub parse-requires : goal.parse-requires
-unfolding tables choice empty weight production_at
+unfolding tables choice empty weight
 parse-requires c = parsable _ tables 0 refl (omega arith)
