@@ -1,16 +1,13 @@
 -- Instances of rules.
-use Rattle.std.specs.Prelude.{ℕ, ℤ, pos, Bool, true, false, not, ◌==◌, ◌&&◌, IsTrue, List, [], ◌∷◌, Option, Some, None, map, Contains, slice_get}
+use Rattle.std.specs.Prelude.{ℕ, Bool, true, false, not, ◌&&◌, IsTrue, List, map, Contains, slice_get}
 use Rattle.std.specs.List.{list_all}
 use Rattle.std.specs.Option.{option_map_or}
-use Rattle.rh_il.specs.declared.program.Edge.{Edge}
 use Rattle.rh_il.specs.declared.program.Node.{Node}
 use Rattle.rh_il.specs.declared.program.Node.TheVariants.{Entry as AtEntry, At}
 use Rattle.rh_il.specs.declared.program.Proc.{Proc}
-use Rattle.rh_il.specs.declared.program.Stmt.{Stmt}
-use Rattle.rh_il.specs.Flow.{edges_into}
 use Rattle.rh_il.specs.Op.{number_of}
 use Rattle.rh_rule.specs.declared.rule.Arg.{Arg}
-use Rattle.rh_rule.specs.declared.rule.Arg.TheVariants.{Var, Const}
+use Rattle.rh_rule.specs.declared.rule.Arg.TheVariants.{Const}
 use Rattle.rh_rule.specs.declared.rule.Conclusion.{Conclusion}
 use Rattle.rh_rule.specs.declared.rule.Conclusion.TheVariants.{Fact, Transform}
 use Rattle.rh_rule.specs.declared.rule.FactUse.{FactUse}
@@ -23,7 +20,7 @@ use Rattle.rh_rule.specs.declared.rule.Side.{Side}
 use Rattle.rh_rule.specs.declared.rule.Side.TheVariants.{Same, Differ}
 use Rattle.rh_rule.specs.declared.rule.SideTerm.{SideTerm}
 use Rattle.rh_rule.specs.declared.rule.SideTerm.TheVariants.{Plain, Compute}
-use Rattle.rh_ground.specs.Binding.{Binding, arg_eq, bound, arg_under, as_number, bindings}
+use Rattle.rh_ground.specs.Binding.{Binding, arg_eq, arg_under, as_number, bindings}
 use Rattle.rh_ground.specs.Constants.{is_constant}
 use Rattle.rh_ground.specs.Match.{matches, is_variable}
 

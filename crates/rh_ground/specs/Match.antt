@@ -1,18 +1,17 @@
 -- Which statements a pattern is under a binding, and which statement a template is.
-use Rattle.std.specs.Prelude.{ℕ, ℤ, Bool, true, false, ◌==◌, ◌&&◌, List, [], ◌∷◌, if◌then◌else◌}
+use Rattle.std.specs.Prelude.{ℕ, Bool, true, false, ◌==◌, ◌&&◌}
 use Rattle.std.specs.Ordering.{int_eq}
 use Rattle.rh_il.specs.declared.program.Base.{Base}
 use Rattle.rh_il.specs.declared.program.Base.TheVariants.{Var as AVariable, Num as ALiteral}
 use Rattle.rh_il.specs.declared.program.Stmt.{Stmt}
 use Rattle.rh_il.specs.declared.program.Stmt.TheVariants.{Skip as ASkip, Copy as ACopy, Address as AnAddress, Load as ALoad, Compute as AComputation, Write as AWrite, New as ANew, Call as ACall, Goto as AGoto, If as AnIf, Return as AReturn}
 use Rattle.rh_il.specs.Op.{op_eq}
-use Rattle.rh_rule.specs.declared.rule.Arg.{Arg}
 use Rattle.rh_rule.specs.declared.rule.Arg.TheVariants.{Var}
 use Rattle.rh_rule.specs.declared.rule.Form.{Form}
-use Rattle.rh_rule.specs.declared.rule.Form.TheVariants.{Entry, Goto, Skip, AnyAssign, Assign, Address, Load, Compute, Write, New, Call, If, Return}
+use Rattle.rh_rule.specs.declared.rule.Form.TheVariants.{Goto, Skip, AnyAssign, Assign, Address, Load, Compute, Write, New, Call, If, Return}
 use Rattle.rh_rule.specs.declared.rule.RuleBase.{RuleBase}
 use Rattle.rh_rule.specs.declared.rule.RuleBase.TheVariants.{Meta, Num, Wild}
-use Rattle.rh_ground.specs.Binding.{Binding, arg_eq, bound, arg_under, base_under, variable_under}
+use Rattle.rh_ground.specs.Binding.{Binding, arg_eq, bound, base_under, variable_under}
 
 abbrev pub base_eq : Base → Base → Bool
 base_eq (AVariable a) (AVariable b) = a == b

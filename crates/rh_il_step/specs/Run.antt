@@ -1,5 +1,5 @@
 -- Runs of a program, and what it returns.
-use Rattle.std.specs.Prelude.{ℕ, zero, suc, ◌<◌, ◌≡◌, ◌-◌, ℤ, pos, List, [], ◌∷◌, Option, Some, None, codes, unwrap_or}
+use Rattle.std.specs.Prelude.{ℕ, zero, suc, ◌<◌, ◌≡◌, ℤ, List, [], ◌∷◌, Option, Some, None, codes, unwrap_or}
 use Rattle.std.specs.List.{position}
 use Rattle.std.specs.Option.{option_and_then}
 use Rattle.std.specs.Str.{bytes_eq}

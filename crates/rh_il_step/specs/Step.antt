@@ -1,9 +1,8 @@
 -- Steps: what one statement makes of a state.
-use Rattle.std.specs.Prelude.{ℕ, ◌+◌, ◌-◌, ◌==◌, ℤ, pos, Bool, List, [], ◌∷◌, ◌++◌, Option, Some, None, length, slice_get, slice_set, replicate, if◌then◌else◌}
+use Rattle.std.specs.Prelude.{ℕ, ◌+◌, ◌-◌, pos, List, [], ◌∷◌, ◌++◌, Option, Some, None, length, slice_get, slice_set, replicate, if◌then◌else◌}
 use Rattle.std.specs.Ordering.{int_eq}
 use Rattle.rh_il.specs.declared.program.Base.{Base}
 use Rattle.rh_il.specs.declared.program.Base.TheVariants.{Var, Num as Literal}
-use Rattle.rh_il.specs.declared.program.Edge.{Edge}
 use Rattle.rh_il.specs.declared.program.Node.TheVariants.{Entry, At}
 use Rattle.rh_il.specs.declared.program.Proc.{Proc}
 use Rattle.rh_il.specs.declared.program.Slot.{Slot}

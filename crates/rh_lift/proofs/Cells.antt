@@ -1,7 +1,7 @@
 -- Writing a cell of the store, and stores that read alike.
-use Rattle.std.proofs.Common.{ℕ, zero, suc, ◌≡◌, ◌<◌, Bool, true, List, [], ◌∷◌, length, slice_set, refl, ap, sym, ◌∙◌, arith}
+use Rattle.std.proofs.Common.{ℕ, zero, suc, ◌≡◌, ◌<◌, List, [], ◌∷◌, length, slice_set, refl, ap, arith}
 use Rattle.rh_il.specs.declared.value.Value.{Value}
-use Rattle.rh_term.specs.Store.{read, write}
+use Rattle.rh_term.specs.Store.{write}
 use Rattle.rh_term.proofs.Stores.{SameReads}
 
 -- a write inside the store sets that cell

@@ -1,9 +1,8 @@
 -- The template of a sound rule makes the step of the statement that it replaces.
-use Rattle.std.proofs.Common.{ℕ, ◌≡◌, ◌≢◌, ◌+◌, ◌<◌, ◌≤◌, Bool, true, false, ◌&&◌, if◌then◌else◌, List, [], ◌∷◌, ◌++◌, map, length, slice_index_or, refl, ap, sym, subst, ◌∙◌, arith, rules}
-use Rattle.std.specs.Prelude.{pos, ℤ, slice_get, replicate, ◌-◌}
+use Rattle.std.proofs.Common.{ℕ, ◌≡◌, ◌≢◌, Bool, true, false, ◌&&◌, if◌then◌else◌, List, [], ◌∷◌, ◌++◌, map, length, refl, ap, sym, subst, ◌∙◌, rules}
+use Rattle.std.specs.Prelude.{pos}
 use Rattle.std.specs.List.{list_all, flat_map, All}
 use Rattle.std.specs.Bool.{beq}
-use Rattle.std.proofs.lemmas.Bool.{and_parts, and_from}
 use Rattle.std.proofs.lemmas.List.{get_or_default}
 use Rattle.rh_il.specs.declared.program.Proc.{Proc}
 use Rattle.rh_il.specs.declared.program.Stmt.{Stmt}
@@ -11,11 +10,10 @@ use Rattle.rh_il.specs.declared.value.Value.{Value}
 use Rattle.rh_il.specs.declared.value.Value.TheVariants.{Num, Ptr}
 use Rattle.rh_il.specs.Value.{IsNumber, IsValue}
 use Rattle.rh_il_step.specs.declared.frame.Frame.{Frame}
-use Rattle.rh_il_step.specs.State.{cell, IsHeld}
+use Rattle.rh_il_step.specs.State.{IsHeld}
 use Rattle.rh_il_step.specs.Step.{Outcome, Went, Stuck, base_value, executed, goes_on, branches, returns, entered, fresh_cells}
 use Rattle.rh_rule.specs.declared.rule.Arg.{Arg}
 use Rattle.rh_rule.specs.declared.rule.Arg.TheVariants.{Var, Const}
-use Rattle.rh_rule.specs.declared.rule.Conclusion.{Conclusion}
 use Rattle.rh_rule.specs.declared.rule.Conclusion.TheVariants.{Transform}
 use Rattle.rh_rule.specs.declared.rule.Form.{Form}
 use Rattle.rh_rule.specs.declared.rule.Form.TheVariants.{Entry, Goto, Skip, AnyAssign, Assign, Address, Load, Compute, Write, New, Call, If, Return}
@@ -28,14 +26,14 @@ use Rattle.rh_rule.specs.declared.schema.Schema.{Schema}
 use Rattle.rh_rule.specs.Params.{kind_of}
 use Rattle.rh_ground.specs.Binding.{Binding, FitsKind, FitsBinding, bound, as_number, base_under}
 use Rattle.rh_ground.specs.Match.{matches, template_under, callee_of}
-use Rattle.rh_term.specs.Model.{Model, IsModel, AValue, AStore, alike, is_number, store_of, value_of}
+use Rattle.rh_term.specs.Model.{Model, IsModel, AValue, AStore, alike, is_number, value_of}
 use Rattle.rh_term.proofs.Stores.{value_eq-true, same_store-reads}
-use Rattle.rh_oblig.specs.Literal.{TreeLit, TreeClause, equals, number_tree}
+use Rattle.rh_oblig.specs.Literal.{TreeClause, equals}
 use Rattle.rh_oblig.specs.Hypotheses.{hypotheses, units, conclusion_clauses, side_literal}
 use Rattle.rh_oblig.specs.Goals.{goals, conclusion_goals, template_goals}
 use Rattle.rh_oblig.specs.Meaning.{fact_literals}
 use Rattle.rh_oblig.specs.Statement.{before, address, value, step_literals, store_after}
-use Rattle.rh_oblig.specs.Valid.{denotation, is_true_in, are_true_in, IsValid, IsSound}
+use Rattle.rh_oblig.specs.Valid.{denotation, is_true_in, are_true_in, IsSound}
 use Rattle.rh_lift.specs.Template.{model_at, IsPlain, IsSafe, IsTame, IsTemplateOf, AreMet, TemplatesStep}
 use Rattle.rh_lift.proofs.Cells.{same_reads}
 use Rattle.rh_lift.proofs.Matched.{IsExact, matched}

@@ -1,5 +1,5 @@
 -- Operands of a rule in the model of a state.
-use Rattle.std.proofs.Common.{ℕ, ◌≡◌, ◌+◌, ◌<◌, ◌≤◌, List, length, refl, ap, sym, subst, ◌∙◌, arith}
+use Rattle.std.proofs.Common.{ℕ, ◌≡◌, ◌+◌, ◌<◌, List, refl, ap, subst}
 use Rattle.rh_il.specs.declared.value.Value.{Value}
 use Rattle.rh_il.specs.declared.value.Value.TheVariants.{Num as ANumber}
 use Rattle.rh_il_step.specs.Step.{base_value}
@@ -12,9 +12,9 @@ use Rattle.rh_rule.specs.declared.schema.Kind.TheVariants.{Var as AVar, Const as
 use Rattle.rh_rule.specs.declared.schema.Param.{Param}
 use Rattle.rh_rule.specs.Params.{kind_of}
 use Rattle.rh_ground.specs.Binding.{Binding, FitsKind, FitsBinding, bound, as_base, as_number, as_variable, base_under}
-use Rattle.rh_term.specs.Model.{Denotation, AValue}
+use Rattle.rh_term.specs.Model.{AValue}
 use Rattle.rh_term.specs.Store.{read}
-use Rattle.rh_oblig.specs.Literal.{operand, value_tree}
+use Rattle.rh_oblig.specs.Literal.{value_tree}
 use Rattle.rh_oblig.specs.Statement.{before, value}
 use Rattle.rh_oblig.specs.Valid.{denotation}
 use Rattle.rh_lift.specs.Template.{model_at, IsTame}

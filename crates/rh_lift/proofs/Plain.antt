@@ -1,6 +1,6 @@
 -- A plain statement steps where its step literals are true in the model of the state, and leaves the
 -- store after of that model.
-use Rattle.std.proofs.Common.{ℕ, ◌≡◌, ◌+◌, ◌<◌, ◌≤◌, Bool, true, false, ◌&&◌, if◌then◌else◌, List, [], ◌∷◌, length, slice_set, refl, ap, sym, subst, ◌∙◌, arith}
+use Rattle.std.proofs.Common.{ℕ, ◌≡◌, ◌+◌, ◌<◌, Bool, true, false, ◌&&◌, if◌then◌else◌, List, length, slice_set, refl, ap, sym, ◌∙◌, arith}
 use Rattle.std.specs.List.{list_all}
 use Rattle.std.specs.Bool.{beq}
 use Rattle.std.proofs.Math.ListN.{length-set}
@@ -13,7 +13,7 @@ use Rattle.rh_il.specs.declared.value.Value.TheVariants.{Num, Ptr}
 use Rattle.rh_il.specs.Op.{apply, total}
 use Rattle.rh_il_step.specs.declared.frame.Frame.{Frame}
 use Rattle.rh_il_step.specs.State.{cell, IsHeld}
-use Rattle.rh_il_step.specs.Step.{Outcome, Went, Stuck, base_value, executed, goes_on, sets, loads, computes, writes}
+use Rattle.rh_il_step.specs.Step.{Outcome, Stuck, base_value, executed, goes_on, sets, loads, computes, writes}
 use Rattle.rh_rule.specs.declared.rule.Form.{Form}
 use Rattle.rh_rule.specs.declared.rule.Form.TheVariants.{Entry, Goto, Skip, AnyAssign, Assign, Address, Load, Compute, Write, New, Call, If, Return}
 use Rattle.rh_rule.specs.declared.rule.RuleBase.{RuleBase}
@@ -22,8 +22,8 @@ use Rattle.rh_rule.specs.declared.schema.Param.{Param}
 use Rattle.rh_rule.specs.Params.{kind_of}
 use Rattle.rh_ground.specs.Binding.{Binding, FitsBinding, bound, as_variable, base_under, variable_under}
 use Rattle.rh_ground.specs.Match.{template_under}
-use Rattle.rh_term.specs.Model.{Model, Denotation, AValue, AStore, is_number, value_of, store_of}
-use Rattle.rh_term.specs.Store.{write, read, select, update}
+use Rattle.rh_term.specs.Model.{Model, AStore, is_number, value_of, store_of}
+use Rattle.rh_term.specs.Store.{write, select, update}
 use Rattle.rh_oblig.specs.Tree.{Tree}
 use Rattle.rh_oblig.specs.Statement.{value, operator_literals, step_literals, store_after}
 use Rattle.rh_oblig.specs.Valid.{denotation, is_true_in}

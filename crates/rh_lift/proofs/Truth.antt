@@ -1,14 +1,13 @@
 -- Which clauses and goals are true in the model of a state.
-use Rattle.std.proofs.Common.{ℕ, ◌≡◌, ◌<◌, Bool, true, false, ◌&&◌, ◌||◌, List, [], ◌∷◌, ◌++◌, map, refl, ap, sym, subst, ◌∙◌}
+use Rattle.std.proofs.Common.{◌≡◌, Bool, true, false, ◌&&◌, ◌||◌, List, [], ◌∷◌, ◌++◌, refl, ap, sym, ◌∙◌}
 use Rattle.std.specs.List.{list_any, list_all, All, AllByRecursion}
 use Rattle.std.proofs.lemmas.Bool.{and_parts, and_from}
 use Rattle.std.proofs.lemmas.List.Elements.{recursion_from_All}
 use Rattle.std.proofs.lemmas.List.Folds.{list_all-append}
-use Rattle.rh_term.specs.Model.{Model, IsModel, AValue, AStore, alike}
-use Rattle.rh_oblig.specs.Literal.{TreeLit, TreeClause, equals}
-use Rattle.rh_oblig.specs.Tree.{Tree}
+use Rattle.rh_term.specs.Model.{Model, IsModel}
+use Rattle.rh_oblig.specs.Literal.{TreeLit, TreeClause}
 use Rattle.rh_oblig.specs.Hypotheses.{units}
-use Rattle.rh_oblig.specs.Valid.{denotation, is_true_in, are_true_in, IsValid}
+use Rattle.rh_oblig.specs.Valid.{is_true_in, are_true_in, IsValid}
 
 or_false : (a : Bool) → (a || false) ≡ a
 or_false true = refl

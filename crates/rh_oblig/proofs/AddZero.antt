@@ -1,15 +1,14 @@
 -- The obligation of the rule that drops `+ 0`, worked by hand: its definition gives these terms.
-use Rattle.std.specs.Prelude.{ℕ, pos, List, [], ◌∷◌, ◌≡◌, refl}
+use Rattle.std.specs.Prelude.{pos, List, [], ◌∷◌, ◌≡◌, refl}
 use Rattle.rh_il.specs.declared.value.Op.TheVariants.{Add}
 use Rattle.rh_rule.specs.declared.rule.Conclusion.TheVariants.{Transform}
 use Rattle.rh_rule.specs.declared.rule.Form.TheVariants.{Assign, Compute}
 use Rattle.rh_rule.specs.declared.rule.Rule.{Rule}
 use Rattle.rh_rule.specs.declared.rule.RuleBase.TheVariants.{Meta, Num as ANumber}
 use Rattle.rh_rule.specs.declared.schema.Kind.TheVariants.{Var}
-use Rattle.rh_rule.specs.declared.schema.Param.{Param}
 use Rattle.rh_term.specs.declared.term.Term.{Term}
 use Rattle.rh_term.specs.declared.term.Term.TheVariants.{Num, Addr, Before, Sel, Upd, Op, Kind, IsNum, IsPtr, Yes}
-use Rattle.rh_oblig.specs.Literal.{TreeLit, TreeClause}
+use Rattle.rh_oblig.specs.Literal.{TreeLit}
 use Rattle.rh_oblig.specs.Hypotheses.{hypotheses}
 use Rattle.rh_oblig.specs.Goals.{goals}
 use Rattle.rh_oblig.specs.TermList.{term_list}

@@ -4,7 +4,6 @@ use Rattle.rh_term.specs.declared.term.Term.{Term}
 use Rattle.rh_term.specs.Term.{is_value_at, is_store_at}
 use Rattle.rh_oblig.specs.Sorts.{IsIn, is_value_tree, is_store_tree}
 use Rattle.rh_oblig.specs.Tree.{Tree, tree_place, with_tree}
-use Rattle.rh_oblig.proofs.Places.{extends_further}
 use Rattle.rh_oblig.proofs.Trees.{stays_in, with_tree_has}
 use Rattle.rh_oblig.proofs.Sorted.{value_at_place, store_at_place}
 

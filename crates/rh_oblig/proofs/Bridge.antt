@@ -1,7 +1,6 @@
 -- Where the clauses of an obligation have no open partition, the obligation holds.
-use Rattle.std.proofs.Common.{ℕ, ◌≡◌, ◌<◌, Bool, true, false, ◌&&◌, List, [], ◌∷◌, ◌++◌, map, length, refl, ap, sym, subst, ◌∙◌}
-use Rattle.std.specs.Prelude.{IsTrue, slice_get}
-use Rattle.std.specs.List.{list_any, list_all, flat_map, AllByRecursion}
+use Rattle.std.proofs.Common.{◌≡◌, true, List, [], ◌∷◌, ◌++◌, length, refl, sym, ◌∙◌}
+use Rattle.std.specs.List.{list_all, flat_map, AllByRecursion}
 use Rattle.std.proofs.lemmas.Bool.{and_from}
 use Rattle.std.proofs.lemmas.List.Folds.{list_all-append}
 use Rattle.rh_rule.specs.declared.rule.Form.{Form}
@@ -9,7 +8,7 @@ use Rattle.rh_rule.specs.declared.schema.Param.{Param}
 use Rattle.rh_term.specs.declared.clause.Lit.{Lit}
 use Rattle.rh_term.specs.declared.clause.Clause.{Clause}
 use Rattle.rh_term.specs.declared.term.Term.{Term}
-use Rattle.rh_term.specs.Clause.{is_true_lit, is_true_clause, are_true, is_within, are_within, opposite}
+use Rattle.rh_term.specs.Clause.{is_true_clause, are_true, is_within, are_within}
 use Rattle.rh_term.specs.Laws.{denial}
 use Rattle.rh_term.specs.Model.{Model, IsModel, same_in}
 use Rattle.rh_term.specs.Partition.{HasNoOpenPartition}
@@ -18,8 +17,8 @@ use Rattle.rh_term.proofs.Bridge.{goals_hold}
 use Rattle.rh_oblig.specs.Tree.{Tree}
 use Rattle.rh_oblig.specs.Literal.{TreeLit, TreeClause}
 use Rattle.rh_oblig.specs.Obligation.{lit_in, clauses_in}
-use Rattle.rh_oblig.specs.TermList.{literal_trees, clause_trees, first_trees, constant_terms, binding_terms, first_store, with_trees, closed, term_list}
-use Rattle.rh_oblig.specs.Valid.{is_true_in, are_true_in, IsValid}
+use Rattle.rh_oblig.specs.TermList.{literal_trees, clause_trees, first_trees, constant_terms, binding_terms, first_store, with_trees, term_list}
+use Rattle.rh_oblig.specs.Valid.{IsValid}
 use Rattle.rh_oblig.specs.Sorts.{IsIn, IsSorted}
 use Rattle.rh_oblig.proofs.Trees.{stays_in}
 use Rattle.rh_oblig.proofs.Places.{Extends}

@@ -1,22 +1,20 @@
 -- What stands at the place of a tree stands for what the tree does, so clauses over places are true
 -- where the clauses over trees are.
-use Rattle.std.proofs.Common.{ℕ, ◌≡◌, ◌+◌, ◌<◌, ◌≤◌, Bool, true, false, ◌&&◌, ◌||◌, List, [], ◌∷◌, ◌++◌, map, length, Some, refl, ap, sym, subst, ◌∙◌, arith}
-use Rattle.std.specs.Prelude.{slice_get, not, if◌then◌else◌, nat_lt}
+use Rattle.std.proofs.Common.{◌≡◌, ◌<◌, Bool, true, ◌&&◌, ◌||◌, List, [], ◌∷◌, ◌++◌, map, length, refl, ap, ◌∙◌}
+use Rattle.std.specs.Prelude.{not, if◌then◌else◌, nat_lt}
 use Rattle.std.specs.List.{list_any, list_all, flat_map, AllByRecursion}
 use Rattle.std.proofs.lemmas.Bool.{and_from, lt-ltb}
-use Rattle.rh_term.specs.declared.clause.Lit.{Lit}
-use Rattle.rh_term.specs.declared.clause.Clause.{Clause}
 use Rattle.rh_term.specs.declared.term.Term.{Term}
 use Rattle.rh_term.specs.declared.term.Term.TheVariants.{Num, Cst, Addr, Any, Fresh, Answer, Before, After, Start, Sel, Upd, Op as Computed, Kind, IsNum, IsPtr, Una, Yes}
-use Rattle.rh_term.specs.Clause.{is_true_lit, is_true_clause, are_true, is_within, are_within}
-use Rattle.rh_term.specs.Model.{Model, AValue, AStore, AKind, AnAnswer, Denotation, alike, value_of, store_of, is_number, denotation_at, denotation_in, denotations, agree, same_in}
+use Rattle.rh_term.specs.Clause.{is_true_lit, are_true, is_within, are_within}
+use Rattle.rh_term.specs.Model.{Model, AValue, AStore, AKind, AnAnswer, Denotation, alike, value_of, store_of, is_number, denotation_at, denotation_in, denotations, same_in}
 use Rattle.rh_term.specs.Store.{select, update, is_unheld}
 use Rattle.rh_term.specs.Term.{IsTermList, HasParts}
 use Rattle.rh_term.proofs.Known.{known_at}
 use Rattle.rh_il.specs.Op.{total}
 use Rattle.rh_oblig.specs.Tree.{Tree, Leaf, Select, Update, Compute, KindOf, Unheld, place_of, tree_place}
 use Rattle.rh_oblig.specs.Literal.{TreeLit, TreeClause}
-use Rattle.rh_oblig.specs.Obligation.{lit_in, clause_in, clauses_in}
+use Rattle.rh_oblig.specs.Obligation.{lit_in, clauses_in}
 use Rattle.rh_oblig.specs.TermList.{literal_trees, clause_trees}
 use Rattle.rh_oblig.specs.Valid.{denotation, is_true_in, are_true_in}
 use Rattle.rh_oblig.proofs.Places.{place_found}

@@ -7,3 +7,4 @@ pub mod Denotes
 pub mod Bridge
 pub mod Added
 pub mod RuleTrees
+pub mod Sound

@@ -1,6 +1,6 @@
 -- The trees of a rule's obligations are of the right sorts.
-use Rattle.std.proofs.Common.{ℕ, ◌≡◌, true, List, [], ◌∷◌, ◌++◌, map, Option, Some, None, refl, subst, sym, ap}
-use Rattle.std.specs.Prelude.{slice_get, pos, filter, length}
+use Rattle.std.proofs.Common.{ℕ, ◌≡◌, true, List, [], ◌∷◌, ◌++◌, map, Option, Some, None, refl}
+use Rattle.std.specs.Prelude.{slice_get, pos, length}
 use Rattle.std.specs.List.{flat_map, AllByRecursion, range_with_len}
 use Rattle.rh_il.specs.declared.program.Slot.{Slot}
 use Rattle.rh_il.specs.declared.program.Slot.TheVariants.{Out, Then, Else}
@@ -29,7 +29,7 @@ use Rattle.rh_rule.specs.declared.schema.MeaningTerm.TheVariants.{Plain, Address
 use Rattle.rh_rule.specs.declared.schema.Param.{Param}
 use Rattle.rh_rule.specs.declared.schema.Schema.{Schema}
 use Rattle.rh_rule.specs.Params.{kind_of}
-use Rattle.rh_term.specs.declared.term.Term.TheVariants.{Num, Addr, Any, Fresh, Answer, Before, After, Start, Yes, IsNum, IsPtr}
+use Rattle.rh_term.specs.declared.term.Term.TheVariants.{Num, Any, Fresh, Answer, After, Start, Yes}
 use Rattle.rh_oblig.specs.Goals.{goals, conclusion_goals, template_goals}
 use Rattle.rh_oblig.specs.Hypotheses.{call_clauses_of, conclusion_clauses, entry_clauses, hypotheses, local_clause, new_clauses, own_clauses, side_literal, side_operand, side_tree, slot_literals, units, var_metas}
 use Rattle.rh_oblig.specs.Literal.{TreeLit, TreeClause, binding_tree, differs, equals, number_tree, operand, pointer_tree, unheld_tree, value_tree}
@@ -37,7 +37,7 @@ use Rattle.rh_oblig.specs.Meaning.{address_at, arg_at, atom_literal, fact_litera
 use Rattle.rh_oblig.specs.Sorts.{IsSorted, is_store_tree, is_value_tree}
 use Rattle.rh_oblig.specs.Statement.{address, before, operator_literals, step_literals, store_after, value, variable}
 use Rattle.rh_oblig.specs.TermList.{binding_terms, clause_trees, constant_terms, first_store, first_trees, literal_trees}
-use Rattle.rh_oblig.specs.Tree.{Tree, Leaf, Select, Update, Compute, KindOf, Unheld}
+use Rattle.rh_oblig.specs.Tree.{Tree, Leaf, Select, Update, Compute, Unheld}
 
 -- a tree of the right sorts that stands for a value
 record IsValue (tree : Tree) : Type 0 where
@@ -358,7 +358,7 @@ first_sorted (If cond) = tt
 first_sorted (Return result) = tt
 
 -- the trees that are always there, and those of the hypotheses
-pub trees_sorted : (schemas : List Schema) (rule : Rule)
+trees_sorted : (schemas : List Schema) (rule : Rule)
     → AllByRecursion IsSorted ((constant_terms ++ binding_terms rule.params) ++ first_store rule.pattern ∷ flat_map clause_trees (hypotheses schemas rule))
 trees_sorted schemas rule =
     all_both IsSorted (constant_terms ++ binding_terms rule.params) (first_store rule.pattern ∷ flat_map clause_trees (hypotheses schemas rule))
@@ -373,3 +373,10 @@ from_lits (lit ∷ lits) h = ((h.0.left, (h.0.right, tt)), from_lits lits h.1)
 -- the trees of the goals
 pub goals_sorted : (schemas : List Schema) (rule : Rule) → AllByRecursion (λ goal. AllByRecursion IsSorted (literal_trees goal)) (goals schemas rule)
 goals_sorted schemas rule = from_lits (goals schemas rule) (goals_lits schemas rule.params rule.pattern rule.conclusion)
+
+-- all trees of an obligation
+pub first_trees_sorted : (schemas : List Schema) (rule : Rule) (goal : TreeLit) → AllByRecursion IsSorted (literal_trees goal)
+    → AllByRecursion IsSorted (first_trees rule.params rule.pattern (hypotheses schemas rule) goal)
+first_trees_sorted schemas rule goal sorted =
+    all_both IsSorted ((constant_terms ++ binding_terms rule.params) ++ first_store rule.pattern ∷ flat_map clause_trees (hypotheses schemas rule)) (literal_trees goal)
+    (trees_sorted schemas rule) sorted

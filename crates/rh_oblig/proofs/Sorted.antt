@@ -1,17 +1,16 @@
 -- Trees of the right sorts keep lists of terms as they have to be.
-use Rattle.std.proofs.Common.{ℕ, zero, suc, ◌≡◌, ◌≢◌, ◌+◌, ◌<◌, ◌≤◌, Bool, true, false, ◌==◌, if◌then◌else◌, List, [], ◌∷◌, ◌++◌, length, take, drop, Option, Some, None, refl, ap, sym, subst, ◌∙◌, arith, inl, inr, ◌⊎◌}
+use Rattle.std.proofs.Common.{ℕ, zero, suc, ◌≡◌, ◌<◌, ◌≤◌, Bool, true, false, ◌==◌, if◌then◌else◌, List, [], ◌∷◌, ◌++◌, length, take, drop, Option, Some, None, refl, ap, sym, subst, ◌∙◌, arith, inl, inr, ◌⊎◌}
 use Rattle.std.proofs.lemmas.List.{take-append-drop}
-use Rattle.std.specs.Prelude.{slice_get, IsTrue}
+use Rattle.std.specs.Prelude.{slice_get}
 use Rattle.std.specs.Option.{option_map_or}
 use Rattle.std.proofs.lemmas.Bool.{eqb-true, eqb-false}
 use Rattle.rh_term.specs.declared.term.Term.{Term}
 use Rattle.rh_term.specs.declared.term.Term.TheVariants.{Num, Cst, Addr, Any, Fresh, Answer, Before, After, Start, Sel, Upd, Op as Computed, Kind, IsNum, IsPtr, Una, Yes}
-use Rattle.rh_term.specs.Term.{is_value_term, is_store_term, is_at, is_value_at, is_store_at, HasParts, HasNumber, IsTermList, IsAdded}
+use Rattle.rh_term.specs.Term.{is_value_term, is_store_term, is_at, is_value_at, is_store_at, HasParts, IsTermList, IsAdded}
 use Rattle.rh_term.proofs.Listed.{grown}
-use Rattle.rh_oblig.specs.Sorts.{IsIn, IsSorted, is_value_tree, is_store_tree}
-use Rattle.rh_oblig.specs.Tree.{Tree, Leaf, Select, Update, Compute, KindOf, Unheld, term_eq, place_of, tree_place, with_term, with_tree}
-use Rattle.rh_oblig.proofs.Places.{Extends, extends_further, place_found, place_most, place_longer, term_eq-refl, with_term_has}
-use Rattle.rh_oblig.proofs.Trees.{Has, stays_in, place_same, with_tree_has}
+use Rattle.rh_oblig.specs.Sorts.{IsIn, is_value_tree, is_store_tree}
+use Rattle.rh_oblig.specs.Tree.{Tree, Leaf, Select, Update, Compute, KindOf, Unheld, term_eq, place_of, tree_place, with_term}
+use Rattle.rh_oblig.proofs.Places.{Extends, place_found, place_most, term_eq-refl}
 
 -- what a tree in a list is the head of stands at its place
 pub at_place : (test : Term → Bool) (terms : List Term) (place : ℕ) (term : Term) → slice_get terms place ≡ Some term → test term ≡ true → is_at test terms place ≡ true

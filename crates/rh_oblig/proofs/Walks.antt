@@ -1,23 +1,17 @@
 -- The list with all terms to which its terms lead.
-use Rattle.std.proofs.Common.{ℕ, zero, suc, ◌≡◌, ◌+◌, ◌*◌, Bool, true, false, List, [], ◌∷◌, ◌++◌, length, drop, get_or, add-one, arith, ◌<◌, ◌-◌, Option, Some, None, refl, ap, sym, subst, ◌∙◌, rules}
-use Rattle.std.specs.Prelude.{slice_get, fold, ℤ, ◌+ℤ◌, ◌-ℤ◌, ◌*ℤ◌, int_lt}
-use Rattle.std.specs.Ordering.{int_eq}
-use mir.Syntax.{w64}
+use Rattle.std.proofs.Common.{ℕ, zero, suc, ◌≡◌, ◌+◌, ◌*◌, true, List, [], ◌∷◌, length, drop, get_or, add-one, arith, ◌<◌, ◌-◌, Option, Some, None, refl, ap, sym, subst, ◌∙◌}
+use Rattle.std.specs.Prelude.{slice_get, fold}
 use Rattle.std.specs.List.{AllByRecursion}
-use Rattle.std.proofs.lemmas.Int.{SFits-int_wrap}
 use Rattle.std.proofs.Math.Seq.{drop-cons}
 use Rattle.rh_il.specs.declared.value.Op.{Op as Operator}
-use Rattle.rh_il.specs.declared.value.Op.TheVariants.{Add, Sub, Mul, Less, Equal}
-use Rattle.rh_il.specs.Op.{number_of, truth}
-use Rattle.rh_il.specs.Value.{IsNumber}
 use Rattle.rh_term.specs.declared.term.Term.{Term}
 use Rattle.rh_term.specs.declared.term.Term.TheVariants.{Num, Cst, Addr, Any, Fresh, Answer, Before, After, Start, Sel, Upd, Op as Computed, Kind, IsNum, IsPtr, Una, Yes}
-use Rattle.rh_term.specs.Term.{is_value_term, is_store_term, is_at, HasParts, HasNumber, IsTermList}
+use Rattle.rh_term.specs.Term.{is_value_term, is_at, HasParts, IsTermList}
 use Rattle.rh_oblig.specs.Tree.{Tree, with_term, with_tree}
 use Rattle.rh_oblig.specs.TermList.{with_trees, folded, read_below, unheld_below, terms_from, walked, closed}
 use Rattle.rh_oblig.proofs.Places.{Extends, extends_itself, extends_further, with_term_has}
-use Rattle.rh_oblig.specs.Sorts.{AreFit, IsIn, IsSorted}
-use Rattle.rh_oblig.proofs.Trees.{Has, stays_in, with_tree_has}
+use Rattle.rh_oblig.specs.Sorts.{AreFit, IsIn}
+use Rattle.rh_oblig.proofs.Trees.{stays_in, with_tree_has}
 use Rattle.rh_oblig.proofs.Sorted.{at_place, parts_here, parts_in}
 
 -- ---- the trees of an obligation

@@ -1,5 +1,5 @@
 -- What has to be shown of a rule: one goal for each of its obligations.
-use Rattle.std.specs.Prelude.{ℕ, List, [], ◌∷◌, ◌++◌}
+use Rattle.std.specs.Prelude.{List, [], ◌∷◌, ◌++◌}
 use Rattle.rh_rule.specs.declared.rule.Conclusion.{Conclusion}
 use Rattle.rh_rule.specs.declared.rule.Conclusion.TheVariants.{Fact, Transform}
 use Rattle.rh_rule.specs.declared.rule.Form.{Form}

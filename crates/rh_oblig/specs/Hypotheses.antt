@@ -1,8 +1,8 @@
 -- What an obligation of a rule may take for granted.
-use Rattle.std.specs.Prelude.{ℕ, ◌+◌, ◌==◌, pos, Bool, true, false, not, ◌&&◌, List, [], ◌∷◌, ◌++◌, map, length}
+use Rattle.std.specs.Prelude.{ℕ, ◌==◌, pos, Bool, true, false, not, List, [], ◌∷◌, ◌++◌, map, length}
 use Rattle.std.specs.List.{flat_map, filter, range_with_len}
 use Rattle.rh_il.specs.declared.program.Slot.{Slot}
-use Rattle.rh_il.specs.declared.program.Slot.TheVariants.{Out, Then, Else}
+use Rattle.rh_il.specs.declared.program.Slot.TheVariants.{Then, Else}
 use Rattle.rh_rule.specs.declared.rule.Conclusion.{Conclusion}
 use Rattle.rh_rule.specs.declared.rule.Conclusion.TheVariants.{Fact, Transform}
 use Rattle.rh_rule.specs.declared.rule.Form.{Form}
@@ -19,7 +19,7 @@ use Rattle.rh_rule.specs.declared.schema.Kind.TheVariants.{Var, Const}
 use Rattle.rh_rule.specs.declared.schema.Param.{Param}
 use Rattle.rh_rule.specs.Params.{kind_of}
 use Rattle.rh_rule.specs.declared.schema.Schema.{Schema}
-use Rattle.rh_term.specs.declared.term.Term.TheVariants.{Num, Any, Fresh, Answer, Before, After, Start, Yes}
+use Rattle.rh_term.specs.declared.term.Term.TheVariants.{Num, Any, Fresh, Answer, After, Start, Yes}
 use Rattle.rh_oblig.specs.Tree.{Tree, Leaf, Select, Compute, Unheld}
 use Rattle.rh_oblig.specs.Literal.{TreeLit, TreeClause, equals, differs, pointer_tree, unheld_tree, binding_tree}
 use Rattle.rh_oblig.specs.Meaning.{fact_literals}

@@ -9,3 +9,4 @@ pub mod Obligation
 pub mod Valid
 pub mod View
 pub mod Sorts
+pub mod Laws

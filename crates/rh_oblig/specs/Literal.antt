@@ -1,6 +1,5 @@
 -- Literals over trees, and the operands of a rule as trees.
-use Rattle.std.specs.Prelude.{ℕ, pos, Bool, true, false, List, [], ◌∷◌}
-use Rattle.rh_il.specs.declared.value.Op.{Op}
+use Rattle.std.specs.Prelude.{ℕ, Bool, true, false, List}
 use Rattle.rh_rule.specs.declared.rule.RuleBase.{RuleBase}
 use Rattle.rh_rule.specs.declared.rule.RuleBase.TheVariants.{Meta, Num as ANumber, Wild}
 use Rattle.rh_rule.specs.declared.schema.Kind.{Kind}

@@ -1,8 +1,8 @@
 -- Meanings of facts as literals over a store.
-use Rattle.std.specs.Prelude.{ℕ, pos, List, [], ◌∷◌, map, Option, Some, None, slice_get, slice_index_or}
+use Rattle.std.specs.Prelude.{ℕ, List, [], map, Some, None, slice_get, slice_index_or}
 use Rattle.rh_rule.specs.declared.rule.FactUse.{FactUse}
 use Rattle.rh_rule.specs.declared.rule.RuleBase.{RuleBase}
-use Rattle.rh_rule.specs.declared.rule.RuleBase.TheVariants.{Meta, Num as ANumber, Wild}
+use Rattle.rh_rule.specs.declared.rule.RuleBase.TheVariants.{Meta, Wild}
 use Rattle.rh_rule.specs.declared.schema.MeaningAtom.{MeaningAtom}
 use Rattle.rh_rule.specs.declared.schema.MeaningAtom.TheVariants.{Same, Differ, IsNumber, IsPointer, Unaliased}
 use Rattle.rh_rule.specs.declared.schema.MeaningBase.{MeaningBase}

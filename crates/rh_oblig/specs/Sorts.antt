@@ -1,5 +1,5 @@
 -- Trees of the right sorts, and trees that stand in a list.
-use Rattle.std.specs.Prelude.{ℕ, ◌<◌, Bool, true, false, IsTrue, List, [], length}
+use Rattle.std.specs.Prelude.{◌<◌, Bool, true, false, IsTrue, List, [], length}
 use Rattle.std.specs.List.{AllByRecursion}
 use Rattle.rh_term.specs.declared.term.Term.{Term}
 use Rattle.rh_term.specs.Term.{is_value_term, is_store_term, HasParts}

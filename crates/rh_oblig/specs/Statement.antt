@@ -1,9 +1,9 @@
 -- What a statement of a form needs to step, and what it makes of the store.
-use Rattle.std.specs.Prelude.{ℕ, pos, List, [], ◌∷◌}
+use Rattle.std.specs.Prelude.{ℕ, List, [], ◌∷◌}
 use Rattle.rh_il.specs.declared.value.Op.{Op}
-use Rattle.rh_il.specs.declared.value.Op.TheVariants.{Add, Sub, Mul, Less, Equal}
+use Rattle.rh_il.specs.declared.value.Op.TheVariants.{Equal}
 use Rattle.rh_rule.specs.declared.rule.Form.{Form}
-use Rattle.rh_rule.specs.declared.rule.Form.TheVariants.{Entry, Goto, Skip, AnyAssign, Assign, Address, Load, Compute as AComputation, Write, New, Call, If, Return}
+use Rattle.rh_rule.specs.declared.rule.Form.TheVariants.{Entry, AnyAssign, Assign, Address, Load, Compute as AComputation, Write, New, Call, If}
 use Rattle.rh_rule.specs.declared.rule.RuleBase.{RuleBase}
 use Rattle.rh_rule.specs.declared.schema.Param.{Param}
 use Rattle.rh_term.specs.declared.term.Term.TheVariants.{Addr, Any, Fresh, Answer, Before, After, Start}

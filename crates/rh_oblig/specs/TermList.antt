@@ -1,5 +1,5 @@
 -- The list of terms of an obligation.
-use Rattle.std.specs.Prelude.{ℕ, zero, suc, ◌+◌, ◌*◌, pos, Bool, List, [], ◌∷◌, ◌++◌, Option, Some, None, map, fold, length, slice_get}
+use Rattle.std.specs.Prelude.{ℕ, zero, suc, ◌+◌, ◌*◌, pos, List, [], ◌∷◌, ◌++◌, Option, Some, None, map, fold, length, slice_get}
 use Rattle.std.specs.List.{range_with_len, flat_map}
 use Rattle.rh_il.specs.declared.value.Op.{Op}
 use Rattle.rh_il.specs.Op.{number_of}

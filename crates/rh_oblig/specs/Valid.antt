@@ -1,5 +1,5 @@
 -- What trees stand for in a model, and when an obligation holds.
-use Rattle.std.specs.Prelude.{ℕ, Bool, not, IsTrue, List, [], if◌then◌else◌}
+use Rattle.std.specs.Prelude.{Bool, not, IsTrue, List, [], if◌then◌else◌}
 use Rattle.std.specs.List.{list_any, list_all, All}
 use Rattle.rh_rule.specs.declared.rule.Rule.{Rule}
 use Rattle.rh_rule.specs.declared.schema.Schema.{Schema}

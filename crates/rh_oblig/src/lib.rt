@@ -4,9 +4,12 @@
 mod closing;
 mod goals;
 mod hypotheses;
+mod laws;
 mod list;
 mod literal;
 mod meaning;
 mod own;
 mod statement;
 mod tree;
+
+pub use laws::admitted_rules_are_sound;

@@ -1,16 +1,14 @@
 -- The program that rules rewrite.
-use Rattle.std.specs.Prelude.{ℕ, zero, suc, ◌+◌, Bool, true, false, ◌&&◌, List, [], ◌∷◌, ◌++◌, Option, Some, None, map, length}
-use Rattle.std.specs.List.{flat_map, list_all, filter, find, zip, enumerate_from}
+use Rattle.std.specs.Prelude.{ℕ, Bool, ◌&&◌, List, [], ◌∷◌, ◌++◌, Option, map}
+use Rattle.std.specs.List.{list_all, find, enumerate_from}
 use Rattle.std.specs.Option.{option_map_or}
 use Rattle.rh_il.specs.declared.program.Edge.{Edge}
-use Rattle.rh_il.specs.declared.program.Node.{Node}
 use Rattle.rh_il.specs.declared.program.Node.TheVariants.{At}
 use Rattle.rh_il.specs.declared.program.Proc.{Proc}
 use Rattle.rh_il.specs.declared.program.Stmt.{Stmt}
 use Rattle.rh_il.specs.Flow.{edges_into}
 use Rattle.rh_rule.specs.declared.rule.Conclusion.{Conclusion}
 use Rattle.rh_rule.specs.declared.rule.Conclusion.TheVariants.{Fact, Transform}
-use Rattle.rh_rule.specs.declared.rule.FactUse.{FactUse}
 use Rattle.rh_rule.specs.declared.rule.Form.{Form}
 use Rattle.rh_rule.specs.declared.rule.Rule.{Rule}
 use Rattle.rh_rule.specs.declared.rule.Ruling.{Ruling}

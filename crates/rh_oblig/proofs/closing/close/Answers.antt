@@ -1,7 +1,5 @@
-use Rattle.std.proofs.Common.{◌≡◌, ◌<◌, ◌*◌, List, length, fold, sym, subst, ◌∙◌, ap, arith}
-use Rattle.rh_term.specs.declared.term.Term.{Term}
+use Rattle.std.proofs.Common.{◌<◌, ◌*◌, length, fold, sym, subst, ◌∙◌, ap, arith}
 use Rattle.rh_oblig.specs.Sorts.{AreFit}
-use Rattle.rh_oblig.specs.TermList.{terms_from}
 use Rattle.rh_oblig.specs.Tree.{with_term}
 use Rattle.rh_oblig.proofs.Walks.{from_fits, walk_step}
 use Rattle.rh_oblig.proofs.closing.close.Goals as goal

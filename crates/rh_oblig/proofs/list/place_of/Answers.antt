@@ -1,4 +1,3 @@
-use Rattle.std.proofs.Common.{sym}
 use Rattle.rh_oblig.proofs.Places.{place_found}
 use Rattle.rh_oblig.proofs.list.place_of.Goals as goal
 
