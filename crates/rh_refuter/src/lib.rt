@@ -3,5 +3,7 @@
 
 mod choice;
 mod search;
+#[cfg(test)]
+mod tests;
 
 pub use search::{Verdict, is_small, refute};
