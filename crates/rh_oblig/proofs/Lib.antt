@@ -8,3 +8,6 @@ pub mod Bridge
 pub mod Added
 pub mod RuleTrees
 pub mod Sound
+pub mod Build
+pub mod Each
+pub mod Fits

@@ -29,14 +29,16 @@ use Rattle.rh_rule.specs.declared.schema.MeaningTerm.TheVariants.{Plain, Address
 use Rattle.rh_rule.specs.declared.schema.Param.{Param}
 use Rattle.rh_rule.specs.declared.schema.Schema.{Schema}
 use Rattle.rh_rule.specs.Params.{kind_of}
-use Rattle.rh_term.specs.declared.term.Term.TheVariants.{Num, Any, Fresh, Answer, After, Start, Yes}
+use Rattle.rh_term.specs.declared.term.Term.{Term}
+use Rattle.rh_term.specs.Term.{HasParts}
+use Rattle.rh_term.specs.declared.term.Term.TheVariants.{Num, Any, Fresh, Answer, After, Start, Yes, IsNum, IsPtr}
 use Rattle.rh_oblig.specs.Goals.{goals, conclusion_goals, template_goals}
 use Rattle.rh_oblig.specs.Hypotheses.{call_clauses_of, conclusion_clauses, entry_clauses, hypotheses, local_clause, new_clauses, own_clauses, side_literal, side_operand, side_tree, slot_literals, units, var_metas}
 use Rattle.rh_oblig.specs.Literal.{TreeLit, TreeClause, binding_tree, differs, equals, number_tree, operand, pointer_tree, unheld_tree, value_tree}
 use Rattle.rh_oblig.specs.Meaning.{address_at, arg_at, atom_literal, fact_literals, meaning_operand, meaning_tree}
 use Rattle.rh_oblig.specs.Sorts.{IsSorted, is_store_tree, is_value_tree}
 use Rattle.rh_oblig.specs.Statement.{address, before, operator_literals, step_literals, store_after, value, variable}
-use Rattle.rh_oblig.specs.TermList.{binding_terms, clause_trees, constant_terms, first_store, first_trees, literal_trees}
+use Rattle.rh_oblig.specs.TermList.{binding_leaf, clause_trees, first_leaf, first_trees, leaves_of, literal_trees}
 use Rattle.rh_oblig.specs.Tree.{Tree, Leaf, Select, Update, Compute, Unheld}
 
 -- a tree of the right sorts that stands for a value
@@ -342,29 +344,42 @@ clauses_trees : (clauses : List TreeClause) → AreClauses clauses → AllByRecu
 clauses_trees [] h = tt
 clauses_trees (clause ∷ clauses) h = all_both IsSorted (clause_trees clause) (flat_map clause_trees clauses) (lit_trees clause h.0) (clauses_trees clauses h.1)
 
-first_sorted : (pattern : Form) → IsSorted (first_store pattern)
-first_sorted (Entry param) = tt
-first_sorted Goto = tt
-first_sorted Skip = tt
-first_sorted (AnyAssign to) = tt
-first_sorted (Assign to from) = tt
-first_sorted (Address to of) = tt
-first_sorted (Load to from) = tt
-first_sorted (AComputation to op left right) = tt
-first_sorted (Write to from) = tt
-first_sorted (New to) = tt
-first_sorted (Call to arg) = tt
-first_sorted (If cond) = tt
-first_sorted (Return result) = tt
+first_fits : (pattern : Form) → HasParts [] (first_leaf pattern)
+first_fits (Entry param) = tt
+first_fits Goto = tt
+first_fits Skip = tt
+first_fits (AnyAssign to) = tt
+first_fits (Assign to from) = tt
+first_fits (Address to of) = tt
+first_fits (Load to from) = tt
+first_fits (AComputation to op left right) = tt
+first_fits (Write to from) = tt
+first_fits (New to) = tt
+first_fits (Call to arg) = tt
+first_fits (If cond) = tt
+first_fits (Return result) = tt
 
--- the trees that are always there, and those of the hypotheses
-trees_sorted : (schemas : List Schema) (rule : Rule)
-    → AllByRecursion IsSorted ((constant_terms ++ binding_terms rule.params) ++ first_store rule.pattern ∷ flat_map clause_trees (hypotheses schemas rule))
-trees_sorted schemas rule =
-    all_both IsSorted (constant_terms ++ binding_terms rule.params) (first_store rule.pattern ∷ flat_map clause_trees (hypotheses schemas rule))
-    (all_both IsSorted constant_terms (binding_terms rule.params) (tt, (tt, (tt, (tt, (tt, tt)))))
-    (all_mapped IsSorted (λ meta. binding_tree meta (kind_of rule.params meta)) (λ meta. (binding_value meta (kind_of rule.params meta)).sorted) (range_with_len 0 (length rule.params))))
-    (first_sorted rule.pattern, clauses_trees (hypotheses schemas rule) (hypotheses_lits schemas rule))
+binding_fits : (meta : ℕ) (kind : Kind) → HasParts [] (binding_leaf meta kind)
+binding_fits meta Var = tt
+binding_fits meta Const = tt
+
+-- the terms that are always there have no parts
+pub leaves_fit : (params : List Param) (pattern : Form) → AllByRecursion (HasParts []) (leaves_of params pattern)
+leaves_fit params pattern =
+    let bindings : List Term = map (λ meta. binding_leaf meta (kind_of params meta)) (range_with_len 0 (length params)) in
+    let constants : List Term = Num (pos 0) ∷ Num (pos 1) ∷ IsNum ∷ IsPtr ∷ Yes ∷ [] in
+    all_both (HasParts []) (constants ++ bindings) (first_leaf pattern ∷ [])
+    (all_both (HasParts []) constants bindings (tt, (tt, (tt, (tt, (tt, tt)))))
+    (all_mapped (HasParts []) (λ meta. binding_leaf meta (kind_of params meta)) (λ meta. binding_fits meta (kind_of params meta)) (range_with_len 0 (length params))))
+    (first_fits pattern, tt)
+
+leaves_sorted : (leaves : List Term) → AllByRecursion (HasParts []) leaves → AllByRecursion IsSorted (map Leaf leaves)
+leaves_sorted [] fit = tt
+leaves_sorted (leaf ∷ leaves) fit = (fit.0, leaves_sorted leaves fit.1)
+
+-- the trees of the hypotheses
+pub hypotheses_sorted : (schemas : List Schema) (rule : Rule) → AllByRecursion IsSorted (flat_map clause_trees (hypotheses schemas rule))
+hypotheses_sorted schemas rule = clauses_trees (hypotheses schemas rule) (hypotheses_lits schemas rule)
 
 from_lits : (lits : List TreeLit) → AreLits lits → AllByRecursion (λ lit. AllByRecursion IsSorted (literal_trees lit)) lits
 from_lits [] h = tt
@@ -375,8 +390,13 @@ pub goals_sorted : (schemas : List Schema) (rule : Rule) → AllByRecursion (λ 
 goals_sorted schemas rule = from_lits (goals schemas rule) (goals_lits schemas rule.params rule.pattern rule.conclusion)
 
 -- all trees of an obligation
+pub trees_sorted : (params : List Param) (pattern : Form) (hypotheses : List TreeClause) (goal : TreeLit)
+    → AllByRecursion IsSorted (flat_map clause_trees hypotheses) → AllByRecursion IsSorted (literal_trees goal) → AllByRecursion IsSorted (first_trees params pattern hypotheses goal)
+trees_sorted params pattern hypotheses goal known denied =
+    all_both IsSorted (map Leaf (leaves_of params pattern) ++ flat_map clause_trees hypotheses) (literal_trees goal)
+    (all_both IsSorted (map Leaf (leaves_of params pattern)) (flat_map clause_trees hypotheses) (leaves_sorted (leaves_of params pattern) (leaves_fit params pattern)) known)
+    denied
+
 pub first_trees_sorted : (schemas : List Schema) (rule : Rule) (goal : TreeLit) → AllByRecursion IsSorted (literal_trees goal)
     → AllByRecursion IsSorted (first_trees rule.params rule.pattern (hypotheses schemas rule) goal)
-first_trees_sorted schemas rule goal sorted =
-    all_both IsSorted ((constant_terms ++ binding_terms rule.params) ++ first_store rule.pattern ∷ flat_map clause_trees (hypotheses schemas rule)) (literal_trees goal)
-    (trees_sorted schemas rule) sorted
+first_trees_sorted schemas rule goal sorted = trees_sorted rule.params rule.pattern (hypotheses schemas rule) goal (hypotheses_sorted schemas rule) sorted

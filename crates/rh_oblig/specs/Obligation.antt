@@ -1,5 +1,6 @@
 -- Clauses over a list of terms, and the clauses of an obligation.
-use Rattle.std.specs.Prelude.{List, [], ◌∷◌, ◌++◌, map}
+use Rattle.std.specs.Prelude.{ℕ, nat_lt, List, [], ◌∷◌, ◌++◌, Option, map, find, length}
+use Rattle.rh_term.specs.declared.obligation.Obligation.{Obligation}
 use Rattle.rh_term.specs.declared.clause.Lit.{Lit}
 use Rattle.rh_term.specs.declared.clause.Clause.{Clause}
 use Rattle.rh_term.specs.declared.term.Term.{Term}
@@ -48,3 +49,15 @@ IsShown schemas rule goal = HasNoOpenPartition (terms_of schemas rule goal) (cla
 -- the rule is proved where none of its obligations has an open partition
 abbrev pub IsAdmitted : List Schema → Rule → Type 0
 IsAdmitted schemas rule = All (IsShown schemas rule) (goals schemas rule)
+
+-- the obligations of a rule, one for each goal in order: its list of terms and its clauses
+abbrev pub obligations_of : List Schema → Rule → List (List Term × List Clause)
+obligations_of schemas rule = map (λ goal. (terms_of schemas rule goal, clauses_for schemas rule goal)) (goals schemas rule)
+
+-- the obligations that the code made
+abbrev pub parts_of : List Obligation → List (List Term × List Clause)
+parts_of obligations = map (λ obligation. (obligation.terms, obligation.clauses)) obligations
+
+-- the number of terms of the first of the goals with more than 512
+abbrev pub first_excess : List Schema → Rule → List TreeLit → Option ℕ
+first_excess schemas rule goals = find (nat_lt 512) (map (λ goal. length (terms_of schemas rule goal)) goals)

@@ -5,25 +5,31 @@ use Rattle.rh_il.specs.declared.value.Op.{Op}
 use Rattle.rh_il.specs.Op.{number_of}
 use Rattle.rh_rule.specs.declared.rule.Form.{Form}
 use Rattle.rh_rule.specs.declared.rule.Form.TheVariants.{Entry}
+use Rattle.rh_rule.specs.declared.schema.Kind.{Kind as MetaKind}
+use Rattle.rh_rule.specs.declared.schema.Kind.TheVariants.{Var, Const}
 use Rattle.rh_rule.specs.declared.schema.Param.{Param}
 use Rattle.rh_rule.specs.Params.{kind_of}
 use Rattle.rh_term.specs.declared.term.Term.{Term}
 use Rattle.rh_term.specs.declared.term.Term.TheVariants.{Num, Cst, Addr, Any, Fresh, Answer, Before, Start, Sel, Upd, Op as Computed, Kind, IsNum, IsPtr, Una, Yes}
 use Rattle.rh_oblig.specs.Tree.{Tree, Leaf, with_term, with_tree}
-use Rattle.rh_oblig.specs.Literal.{TreeLit, TreeClause, binding_tree}
+use Rattle.rh_oblig.specs.Literal.{TreeLit, TreeClause}
 
--- 0 and 1, the two kinds and `Yes`
-abbrev pub constant_terms : List Tree
-constant_terms = Leaf (Num (pos 0)) ∷ Leaf (Num (pos 1)) ∷ Leaf IsNum ∷ Leaf IsPtr ∷ Leaf Yes ∷ []
-
--- what each metavariable is bound to
-abbrev pub binding_terms : List Param → List Tree
-binding_terms params = map (λ meta. binding_tree meta (kind_of params meta)) (range_with_len 0 (length params))
+-- what a metavariable of a kind is bound to: the address of a variable, or a number
+abbrev pub binding_leaf : ℕ → MetaKind → Term
+binding_leaf meta Var = Addr meta
+binding_leaf meta Const = Cst meta
 
 -- the store with which the pattern begins
-abbrev pub first_store : Form → Tree
-first_store (Entry param) = Leaf Start
-first_store _ = Leaf Before
+abbrev pub first_leaf : Form → Term
+first_leaf (Entry param) = Start
+first_leaf _ = Before
+
+-- the terms that are always there: 0 and 1, the two kinds and `Yes`, what each metavariable is bound
+-- to, and the first store
+abbrev pub leaves_of : List Param → Form → List Term
+leaves_of params pattern =
+    (Num (pos 0) ∷ Num (pos 1) ∷ IsNum ∷ IsPtr ∷ Yes ∷ [])
+    ++ map (λ meta. binding_leaf meta (kind_of params meta)) (range_with_len 0 (length params)) ++ first_leaf pattern ∷ []
 
 abbrev pub literal_trees : TreeLit → List Tree
 literal_trees lit = lit.left ∷ lit.right ∷ []
@@ -33,8 +39,7 @@ clause_trees clause = flat_map literal_trees clause
 
 -- the trees of an obligation: those that are always there, the hypotheses' and the goal's
 abbrev pub first_trees : List Param → Form → List TreeClause → TreeLit → List Tree
-first_trees params pattern hypotheses goal =
-    constant_terms ++ binding_terms params ++ first_store pattern ∷ flat_map clause_trees hypotheses ++ literal_trees goal
+first_trees params pattern hypotheses goal = map Leaf (leaves_of params pattern) ++ flat_map clause_trees hypotheses ++ literal_trees goal
 
 abbrev pub with_trees : List Term → List Tree → List Term
 with_trees terms trees = fold with_tree terms trees

@@ -69,7 +69,7 @@ fn terms_from(alloc: Global, terms: &Terms, place: u32, term: Term) -> Result<Ve
     }
 }
 
-fn add_all(terms: &mut Terms, others: &[Term]) -> Result<(), AllocError>
+pub(crate) fn add_all(terms: &mut Terms, others: &[Term]) -> Result<(), AllocError>
     requires { AreFit terms.old others.now }
     ensures { OnOk result (terms.new ≡ fold with_term terms.old others.now) }
 {

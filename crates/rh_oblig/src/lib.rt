@@ -8,8 +8,11 @@ mod laws;
 mod list;
 mod literal;
 mod meaning;
+mod obligation;
 mod own;
 mod statement;
+mod term_list;
 mod tree;
 
 pub use laws::admitted_rules_are_sound;
+pub use obligation::{MOST_TERMS, ObligFault, obligations};

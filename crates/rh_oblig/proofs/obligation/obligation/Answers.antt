@@ -1,0 +1,27 @@
+use Rattle.std.proofs.Common.{◌≡◌, ◌∙◌, ap, false, true, length, sym, subst}
+use Rattle.std.specs.List.{AllByRecursion, flat_map}
+use Rattle.rh_term.specs.Clause.{are_within}
+use Rattle.rh_oblig.specs.Sorts.{IsIn}
+use Rattle.rh_oblig.specs.TermList.{clause_trees, literal_trees}
+use Rattle.rh_oblig.specs.View.{clauses_of, lit_of}
+use Rattle.rh_oblig.proofs.Bridge.{trees_in}
+use Rattle.rh_oblig.proofs.Fits.{clauses_fit}
+use Rattle.rh_oblig.proofs.obligation.obligation.Goals as goal
+
+pub clauses-requires-clause-taken : goal.clauses-requires-clause-taken
+clauses-requires-clause-taken c =
+    subst (λ terms. AllByRecursion (IsIn terms) (flat_map clause_trees (clauses_of c.args.taken.now))) (sym c.in_ok-terms.ensures)
+    (trees_in c.as_slice.result.now c.args.rule.now.pattern (clauses_of c.args.taken.now) (lit_of c.args.goal.now)).0
+
+pub clauses-requires-clause-goal : goal.clauses-requires-clause-goal
+clauses-requires-clause-goal c =
+    subst (λ terms. AllByRecursion (IsIn terms) (literal_trees (lit_of c.args.goal.now))) (sym c.in_ok-terms.ensures)
+    (trees_in c.as_slice.result.now c.args.rule.now.pattern (clauses_of c.args.taken.now) (lit_of c.args.goal.now)).1
+
+pub unreachable-requires : goal.unreachable-requires
+unreachable-requires c =
+    let fit : are_within (length c.in_ok-terms.terms) c.into.result ≡ true =
+    ap (are_within (length c.in_ok-terms.terms)) (c.into.ensures ∙ c.in_ok-clauses.ensures)
+    ∙ clauses_fit c.in_ok-terms.terms c.as_slice.result.now c.args.rule.now.pattern (clauses_of c.args.taken.now) (lit_of c.args.goal.now) c.in_ok-terms.ensures c.requires.taken c.requires.goal c.len-count.ensures.list in
+    let absurd : false ≡ true = c.in-None.ensures.within.1 fit in
+    cc

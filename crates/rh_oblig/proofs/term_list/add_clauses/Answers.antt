@@ -1,0 +1,36 @@
+use Rattle.std.proofs.Common.{◌≡◌, ◌+◌, List, drop, get_or, sym, subst, ◌∙◌, ap}
+use Rattle.std.specs.List.{AllByRecursion, flat_map}
+use Rattle.rh_oblig.specs.declared.literal.TreeLit.{TreeLit as BuiltLit}
+use Rattle.rh_oblig.specs.declared.hypotheses.TreeClause.{TreeClause as BuiltClause}
+use Rattle.rh_oblig.specs.Sorts.{IsSorted}
+use Rattle.rh_oblig.specs.TermList.{clause_trees, literal_trees, with_trees}
+use Rattle.rh_oblig.specs.Tree.{Tree}
+use Rattle.rh_oblig.specs.View.{clauses_of, lits_of}
+use Rattle.rh_oblig.proofs.Build.{adds_piece, clauses_cut, first_half}
+use Rattle.rh_oblig.proofs.term_list.add_clauses.Goals as goal
+
+pub add_lits-requires : goal.add_lits-requires
+add_lits-requires c =
+    let clauses : List BuiltClause = c.args.clauses.now in
+    let item : BuiltClause = c.clause-item.result in
+    let i = c.loop-clause.clause-index in
+    let cut = clauses_cut clauses i item c.loop-clause-test.true in
+    let whole = subst (AllByRecursion IsSorted) cut c.loop-clause.invariant.sorted in
+    subst (λ (lits : List BuiltLit). AllByRecursion IsSorted (flat_map literal_trees (lits_of lits)))
+    (ap (λ (clause : BuiltClause). clause.lits.items) (sym c.clause-item.is) ∙ sym c.as_slice.ensures.value)
+    (first_half IsSorted (clause_trees (lits_of (get_or clauses i item).lits.items)) (flat_map clause_trees (clauses_of (drop (i + 1) clauses))) whole)
+
+pub loop-clause-preserved : goal.loop-clause-preserved
+loop-clause-preserved c =
+    let clauses : List BuiltClause = c.args.clauses.now in
+    let item : BuiltClause = c.clause-item.result in
+    let i = c.loop-clause.clause-index in
+    let old = c.loop-clause.invariant in
+    let piece : List Tree = clause_trees (lits_of (get_or clauses i item).lits.items) in
+    let added : c.add_lits.new.terms ≡ with_trees c.loop-clause.terms piece =
+    c.in_ok-add_lits.ensures
+    ∙ ap (λ (lits : List BuiltLit). with_trees c.loop-clause.terms (flat_map literal_trees (lits_of lits)))
+    (c.as_slice.ensures.value ∙ ap (λ (clause : BuiltClause). clause.lits.items) c.clause-item.is) in
+    let step = adds_piece c.loop-clause.terms c.add_lits.new.terms (flat_map clause_trees (clauses_of (drop i clauses))) piece (flat_map clause_trees (clauses_of (drop (i + 1) clauses)))
+    (clauses_cut clauses i item c.loop-clause-test.true) added old.sorted in
+    record { same = step.same ∙ old.same; sorted = step.sorted }

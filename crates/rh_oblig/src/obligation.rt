@@ -1,0 +1,177 @@
+//! The obligations of a rule.
+ghost use Rattle.std.specs.Prelude.{ℕ, ◌≡◌, ◌<◌, ◌≤◌, ◌^◌, Err, IfOk, None, OnOk, Some, length};
+ghost use Rattle.rh_oblig.specs.Goals.{goals};
+ghost use Rattle.rh_oblig.specs.Hypotheses.{hypotheses};
+ghost use Rattle.rh_term.specs.Laws.{denial};
+ghost use Rattle.std.specs.List.{AllByRecursion, flat_map};
+ghost use Rattle.rh_oblig.specs.Obligation.{clause_in, clauses_in, first_excess, lit_in, obligation_clauses, obligations_of, parts_of};
+ghost use Rattle.rh_oblig.specs.Sorts.{IsIn, IsSorted};
+ghost use Rattle.rh_oblig.specs.TermList.{clause_trees, literal_trees, term_list};
+ghost use Rattle.rh_oblig.specs.View.{clauses_of, lit_of, lits_of};
+
+use crate::goals::goals;
+use crate::hypotheses::{TreeClause, hypotheses};
+use crate::list::tree_place;
+use crate::literal::TreeLit;
+use crate::term_list::term_list;
+use rh_axioms::{instances, standard};
+use rh_rule::{Rule, Schema};
+use rh_term::{Clause, Lit, Obligation, Terms};
+use std::alloc::{AllocError, AllocFailed, Global};
+use thiserror::Error;
+
+/// The most terms that an obligation may have.
+pub const MOST_TERMS: u32 = 512;
+
+/// Why the obligations of a rule were not made.
+#[derive(Clone, Copy, Debug, PartialEq, Eq, Error)]
+pub enum ObligFault {
+    /// An obligation has more than `MOST_TERMS` terms: so many, in the first such.
+    #[error("{0} terms")]
+    TooManyTerms(u64),
+    /// There was no memory for them.
+    #[error("out of memory")]
+    NoMemory,
+}
+
+impl From<AllocError> for ObligFault {
+    ghost use Rattle.rh_oblig.specs.declared.obligation.ObligFault.TheVariants.{NoMemory};
+
+    ghost from_gives = { λ _ fault. fault ≡ NoMemory };
+
+    fn from(_error: AllocError) -> ObligFault {
+        ObligFault::NoMemory
+    }
+}
+
+impl<T: Drop> From<AllocFailed<T>> for ObligFault {
+    ghost use Rattle.rh_oblig.specs.declared.obligation.ObligFault.TheVariants.{NoMemory};
+
+    ghost from_gives = { λ _ fault. fault ≡ NoMemory };
+
+    fn from(_error: AllocFailed<T>) -> ObligFault {
+        ObligFault::NoMemory
+    }
+}
+
+/// What has to be shown of a rule: its obligations in their order, over the schemas of its file.
+pub fn obligations(
+    alloc: Global,
+    schemas: &[Schema],
+    rule: &Rule,
+) -> Result<Vec<Obligation>, ObligFault>
+    requires { length rule.now.params < 2 ^ 32 }
+    ensures made { IfOk result (λ made. parts_of made.items ≡ obligations_of schemas.now rule.now) }
+    ensures small { OnOk result (first_excess schemas.now rule.now (goals schemas.now rule.now) ≡ None) }
+    ensures too_many { (count : ℕ) → result ≡ Err (ObligFault.TooManyTerms count)
+        → first_excess schemas.now rule.now (goals schemas.now rule.now) ≡ Some count }
+{
+    let taken = hypotheses(alloc, schemas, rule)?;
+    let goals = goals(alloc, schemas, rule)?;
+    let mut made = Vec::with_capacity(alloc, goals.len())?;
+    for goal in goals.as_slice() {
+        made.push(obligation(alloc, rule, taken.as_slice(), goal)?)?;
+    }
+    Ok(made)
+}
+
+/// The obligation of a goal under these hypotheses.
+fn obligation(
+    alloc: Global,
+    rule: &Rule,
+    taken: &[TreeClause],
+    goal: &TreeLit,
+) -> Result<Obligation, ObligFault>
+    requires few { length rule.now.params < 2 ^ 32 }
+    requires taken { AllByRecursion IsSorted (flat_map clause_trees (clauses_of taken.now)) }
+    requires goal { AllByRecursion IsSorted (literal_trees (lit_of goal.now)) }
+    ensures terms { IfOk result (λ made. made.terms ≡ term_list rule.now.params rule.now.pattern (clauses_of taken.now) (lit_of goal.now)) }
+    ensures clauses { IfOk result (λ made. made.clauses ≡ obligation_clauses made.terms (clauses_of taken.now) (lit_of goal.now)) }
+    ensures small { OnOk result (length (term_list rule.now.params rule.now.pattern (clauses_of taken.now) (lit_of goal.now)) ≤ 512) }
+    ensures too_many { (count : ℕ) → result ≡ Err (ObligFault.TooManyTerms count)
+        → (512 < count) × (count ≡ length (term_list rule.now.params rule.now.pattern (clauses_of taken.now) (lit_of goal.now))) }
+{
+    let terms = term_list(alloc, rule.params.as_slice(), rule.pattern, taken, goal)?;
+    let count = terms.len();
+    if count > MOST_TERMS {
+        return Err(ObligFault::TooManyTerms(u64::from(count)));
+    }
+    let clauses = clauses(alloc, &terms, taken, goal)?;
+    match Obligation::of(terms, clauses.into()) {
+        Some(obligation) => Ok(obligation),
+        None => unreachable!(),
+    }
+}
+
+/// The clauses of the hypotheses, the instances of the clause schemas, and the denied goal.
+fn clauses(
+    alloc: Global,
+    terms: &Terms,
+    taken: &[TreeClause],
+    goal: &TreeLit,
+) -> Result<Vec<Clause>, AllocError>
+    requires taken { AllByRecursion (IsIn terms.now) (flat_map clause_trees (clauses_of taken.now)) }
+    requires goal { AllByRecursion (IsIn terms.now) (literal_trees (lit_of goal.now)) }
+    ensures { IfOk result (λ clauses. clauses.items ≡ obligation_clauses terms.now (clauses_of taken.now) (lit_of goal.now)) }
+{
+    let mut clauses = clauses_in(alloc, terms, taken)?;
+    for clause in instances(alloc, &standard(), terms)? {
+        clauses.push(clause)?;
+    }
+    clauses.push(denial(alloc, lit_in(terms, goal))?)?;
+    Ok(clauses)
+}
+
+/// The clause that says the opposite of a goal.
+fn denial(alloc: Global, goal: Lit) -> Result<Clause, AllocError>
+    ensures { IfOk result (λ clause. clause ≡ denial goal) }
+{
+    let opposite = Lit {
+        equal: !goal.equal,
+        ..goal
+    };
+    Ok(Clause {
+        lits: vec![in alloc; opposite]?.into(),
+    })
+}
+
+/// A literal with the places of its trees.
+fn lit_in(terms: &Terms, lit: &TreeLit) -> Lit
+    requires { AllByRecursion (IsIn terms.now) (literal_trees (lit_of lit.now)) }
+    ensures { result ≡ lit_in terms.now (lit_of lit.now) }
+{
+    Lit {
+        left: tree_place(terms, &lit.left),
+        right: tree_place(terms, &lit.right),
+        equal: lit.equal,
+    }
+}
+
+fn clause_in(alloc: Global, terms: &Terms, lits: &[TreeLit]) -> Result<Clause, AllocError>
+    requires { AllByRecursion (IsIn terms.now) (flat_map literal_trees (lits_of lits.now)) }
+    ensures { IfOk result (λ clause. clause ≡ clause_in terms.now (lits_of lits.now)) }
+{
+    let mut placed = Vec::with_capacity(alloc, lits.len())?;
+    for lit in lits {
+        placed.push(lit_in(terms, lit))?;
+    }
+    Ok(Clause {
+        lits: placed.into(),
+    })
+}
+
+/// The clauses of the hypotheses, with the places of their trees.
+pub(crate) fn clauses_in(
+    alloc: Global,
+    terms: &Terms,
+    clauses: &[TreeClause],
+) -> Result<Vec<Clause>, AllocError>
+    requires { AllByRecursion (IsIn terms.now) (flat_map clause_trees (clauses_of clauses.now)) }
+    ensures { IfOk result (λ placed. placed.items ≡ clauses_in terms.now (clauses_of clauses.now)) }
+{
+    let mut placed = Vec::with_capacity(alloc, clauses.len())?;
+    for clause in clauses {
+        placed.push(clause_in(alloc, terms, clause.lits.as_slice())?)?;
+    }
+    Ok(placed)
+}
