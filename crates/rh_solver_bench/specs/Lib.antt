@@ -1,0 +1,2 @@
+pub mod LayerRows
+pub mod Covered
