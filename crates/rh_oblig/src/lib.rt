@@ -12,6 +12,8 @@ mod obligation;
 mod own;
 mod statement;
 mod term_list;
+#[cfg(test)]
+mod tests;
 mod tree;
 
 pub use laws::admitted_rules_are_sound;
