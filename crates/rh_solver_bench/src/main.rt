@@ -4,11 +4,13 @@
 #![tactic(auto)]
 
 mod layers;
+mod rounds;
 
 use layers::Layers;
 use rh_engine::solve;
 use rh_outside::OpenGate;
 use rh_system::greatest;
+use rounds::rounds;
 use std::time::Instant;
 use std::{env, io};
 
@@ -49,7 +51,8 @@ fn main(rt: HostRuntime) -> io::Result<()> {
     let taken = start.elapsed(&rt)?.as_millis();
     println!(rt; "{} words by one thread", words.len())?;
     if request.timed {
-        println!(rt; "  {taken} ms")?;
+        let rounds = rounds(rt.alloc(), &system)?;
+        println!(rt; "  {taken} ms, {rounds} rounds")?;
     }
     for workers in [1u32, 2, 4] {
         let start = Instant::now(&rt)?;
