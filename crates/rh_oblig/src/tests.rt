@@ -38,6 +38,7 @@ fn folding(alloc: Global) -> Result<Rule, Fail> {
 #[test]
 fn folding_has_one_obligation(rt: HostRuntime) -> Result<(), Fail> {
     let rule = folding(rt.alloc())?;
+    assert!(rt; rule.params.len() < 2);
     let schemas: Vec<Schema> = Vec::new(rt.alloc());
     let made = obligations(rt.alloc(), schemas.as_slice(), &rule)?;
     assert_eq!(rt; made.len(), 1);
