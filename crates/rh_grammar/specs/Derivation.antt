@@ -12,6 +12,10 @@ pub data Derives (rules : List (ℕ × List Symbol)) : List Symbol → List ℕ 
   token : {class : ℕ} {symbols : List Symbol} {ps tokens : List ℕ} → Derives rules symbols ps tokens → Derives rules (Token class ∷ symbols) ps (class ∷ tokens)
   expand : {rule p : ℕ} {symbols to : List Symbol} {ps tokens : List ℕ} → slice_get rules p ≡ Some (rule, to) → Derives rules (to ++ symbols) ps tokens → Derives rules (Rule rule ∷ symbols) (p ∷ ps) tokens
 
+-- symbols derive the tokens
+abbrev pub Leads : List (ℕ × List Symbol) → List Symbol → List ℕ → Type 0
+Leads rules symbols tokens = (ps : List ℕ) × Derives rules symbols ps tokens
+
 -- a nonterminal derives the tokens
 abbrev pub Derivable : List (ℕ × List Symbol) → ℕ → List ℕ → Type 0
 Derivable rules rule tokens = (ps : List ℕ) × Derives rules (Rule rule ∷ []) ps tokens

@@ -3,3 +3,4 @@ pub mod Pieces
 pub mod Fronts
 pub mod Decimal
 pub mod Tokens
+pub mod Words

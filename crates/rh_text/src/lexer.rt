@@ -3,6 +3,8 @@
 ghost use Rattle.std.specs.Prelude.{◌≡◌, ◌≤◌, length, IfOk, IfErr, MatchResult};
 ghost use Rattle.rh_text.specs.Pieces.{AreTokens, IsFirstFault};
 ghost use Rattle.rh_text.specs.Tokens.{FaultsAs};
+ghost use Rattle.rh_text.specs.Words.{IsTokenOf};
+ghost use Rattle.std.specs.List.{All};
 
 use crate::front::front_at;
 use crate::token::{LexFault, Token};
@@ -15,6 +17,7 @@ pub const TEXT_LIMIT: usize = 1_048_576;
 pub fn tokens(alloc: Global, text: &[u8]) -> Result<Vec<Token>, LexFault>
     requires { length text.now ≤ TEXT_LIMIT }
     ensures tokens { IfOk result (λ tokens. AreTokens text.now tokens.items) }
+    ensures each { IfOk result (λ tokens. All (IsTokenOf text.now) tokens.items) }
     ensures fault { IfErr result (FaultsAs text.now) }
 {
     let mut tokens = Vec::new(alloc);

@@ -7,6 +7,7 @@ mod number;
 mod run;
 mod sign;
 mod token;
+mod word;
 
 pub use lexer::{TEXT_LIMIT, tokens};
 pub use number::{decimal, signed};

@@ -59,3 +59,21 @@ fn first_faults(rt: HostRuntime) {
         assert_eq!(rt; fault_of(rt.alloc(), text), want, "at {text:?}");
     }
 }
+
+fn values(alloc: Global, text: &[u8]) -> Result<Vec<u64>, LexFault> {
+    let mut values = Vec::new(alloc);
+    if text.len() > super::TEXT_LIMIT {
+        return Ok(values);
+    }
+    for token in tokens(alloc, text)? {
+        values.push(token.value(text))?;
+    }
+    Ok(values)
+}
+
+#[test]
+fn values_of_tokens(rt: HostRuntime) -> Result<(), Fail> {
+    let found = values(rt.alloc(), b"x1 007 -9223372036854775808")?;
+    assert_eq!(rt; found.as_slice(), [0, 7, 0, 1 << 63].as_slice());
+    Ok(())
+}

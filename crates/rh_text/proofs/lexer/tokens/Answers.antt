@@ -1,5 +1,6 @@
-use Rattle.std.proofs.Common.{is_ok, ap, subst, sym}
+use Rattle.std.proofs.Common.{arith, is_ok, ap, subst, sym}
 use Rattle.std.proofs.ResultArms.{chosen}
+use Rattle.rh_text.proofs.TokenLemmas.{each_token}
 use Rattle.rh_text.proofs.PieceLemmas.{IsReadTo, front_within, read_gap, read_token}
 use Rattle.rh_text.proofs.lexer.tokens.Goals as goal
 
@@ -23,3 +24,6 @@ loop-at-preserved c =
       read = read_gap text at front c.in_ok-front.ensures _ c.loop-at.invariant.read c.in_default.is;
       within = front_within text at front c.in_ok-front.ensures c.loop-at.invariant.within;
     }
+
+pub returns-clause-each : goal.returns-clause-each
+returns-clause-each c = each_token c.args.text.now c.loop-at.at c.loop-at.tokens.items (omega arith) c.loop-at.invariant.read
