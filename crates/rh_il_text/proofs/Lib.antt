@@ -1,1 +1,9 @@
 pub mod Places
+pub mod Classes
+pub mod Fronts
+pub mod Statements
+pub mod Parts
+pub mod Sources
+pub mod Proper
+pub mod AsciiNames
+pub mod IndexSteps

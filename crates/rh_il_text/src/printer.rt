@@ -2,13 +2,14 @@
 
 ghost use Rattle.std.specs.Prelude.{◌≡◌, ◌++◌, codes, IfOk, OnOk};
 ghost use Rattle.std.specs.List.{flat_map};
-ghost use Rattle.std.specs.Fmt.{decimal};
+ghost use Rattle.std.specs.Fmt.{decimal, signed_decimal};
 ghost use Rattle.rh_il_text.specs.Text.{name_at, proc_name, op_text, base_text, to_text, compute_text, call_text, branch_text, stmt_text, line_text, locals_text, vars_text, proc_text, text_at, program_text};
 
 use rh_il::{Base, Name, Op, Proc, Program, Stmt};
 use std::alloc::{AllocError, Global};
 
-fn push(out: &mut Vec<u8>, bytes: &[u8]) -> Result<(), AllocError>
+/// Adds bytes to a text.
+pub fn push(out: &mut Vec<u8>, bytes: &[u8]) -> Result<(), AllocError>
     ensures { OnOk result (out.new.items ≡ out.old.items ++ bytes.now) }
 {
     out.extend_from_slice(bytes)
@@ -39,19 +40,25 @@ fn push_target(alloc: Global, out: &mut Vec<u8>, number: u32) -> Result<(), Allo
     push(out, text.as_bytes())
 }
 
+/// Adds a number to a text, with a sign where it is below 0.
+pub fn push_number(alloc: Global, out: &mut Vec<u8>, number: i64) -> Result<(), AllocError>
+    ensures { OnOk result (out.new.items ≡ out.old.items ++ signed_decimal number) }
+{
+    let text = format!(in alloc; "{number}")?;
+    push(out, text.as_bytes())
+}
+
 fn push_base(alloc: Global, out: &mut Vec<u8>, vars: &[Name], base: Base) -> Result<(), AllocError>
     ensures { OnOk result (out.new.items ≡ out.old.items ++ base_text vars.now base) }
 {
     match base {
         Base::Var(x) => push_name(out, vars, x),
-        Base::Num(number) => {
-            let text = format!(in alloc; "{number}")?;
-            push(out, text.as_bytes())
-        }
+        Base::Num(number) => push_number(alloc, out, number),
     }
 }
 
-fn op_text(op: Op) -> &'static [u8]
+/// The sign of an operator.
+pub fn op_text(op: Op) -> &'static [u8]
     ensures { result.now ≡ op_text op }
 {
     match op {
@@ -261,7 +268,7 @@ fn push_proc(
     push(out, b"}\n")
 }
 
-fn push_number(
+fn push_proc_at(
     alloc: Global,
     out: &mut Vec<u8>,
     program: &Program,
@@ -281,7 +288,7 @@ pub fn print_program(alloc: Global, program: &Program) -> Result<Vec<u8>, AllocE
 {
     let mut out = Vec::new(alloc);
     for number in 0..program.count() {
-        push_number(alloc, &mut out, program, number)?;
+        push_proc_at(alloc, &mut out, program, number)?;
     }
     Ok(out)
 }

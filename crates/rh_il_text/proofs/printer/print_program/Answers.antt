@@ -7,5 +7,5 @@ pub loop-number-preserved : goal.loop-number-preserved
 loop-number-preserved c =
     let procs = c.args.program.now in
     let below = subst (λ n. c.loop-number.number < n) c.count-number-end.ensures.count c.loop-number-test.true in
-    c.in_ok-push_number.ensures ∙ ap (λ l. l ++ text_at procs c.loop-number.number) c.loop-number.invariant
+    c.in_ok-push_proc_at.ensures ∙ ap (λ l. l ++ text_at procs c.loop-number.number) c.loop-number.invariant
     ∙ sym (flat_map_at (proc_text procs) procs c.loop-number.number below)
