@@ -1,1 +1,9 @@
 pub mod Params
+pub mod Words
+pub mod Operands
+pub mod Numbers
+pub mod Kinds
+pub mod Shapes
+pub mod Uses
+pub mod Checks
+pub mod RuleFiles

@@ -1,8 +1,22 @@
 //! Fact schemas and rules.
 #![tactic(auto)]
 
+mod check;
+mod fault;
+mod kinds;
+mod numbers;
 mod rule;
+mod rule_file;
 mod schema;
+mod shapes;
+mod uses;
+mod words;
 
+pub use fault::{Item, Many, RuleFault, RuleWrong};
 pub use rule::{Arg, Conclusion, FactUse, Form, Rule, RuleBase, Ruling, Side, SideTerm};
+pub use rule_file::RuleFile;
 pub use schema::{Kind, MeaningAtom, MeaningBase, MeaningTerm, Param, Schema};
+pub use words::{are_proper, is_proper};
+
+#[cfg(test)]
+mod tests;
