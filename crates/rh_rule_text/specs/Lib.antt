@@ -1,0 +1,10 @@
+pub mod Words
+pub mod Grammar
+pub mod Cursor
+pub mod Source
+pub mod Lists
+pub mod Resolve
+pub mod Unknown
+pub mod Reading
+pub mod Proper
+pub mod Text

@@ -1,0 +1,112 @@
+//! Reads rule files.
+
+ghost use Rattle.std.specs.Prelude.{◌≡◌, ◌≤◌, ◌∷◌, [], true, map, length, IfOk, IfErr};
+ghost use Rattle.std.specs.List.{All, list_all};
+ghost use Rattle.rh_text.specs.Pieces.{AreTokens};
+ghost use Rattle.rh_text.specs.Words.{IsTokenOf};
+ghost use Rattle.rh_grammar.specs.declared.grammar.Symbol.TheVariants.{Rule};
+ghost use Rattle.rh_grammar.specs.Derivation.{Derives};
+ghost use Rattle.rh_rule_text.specs.Grammar.{productions, file};
+ghost use Rattle.rh_rule_text.specs.Words.{class_of, word_of};
+ghost use Rattle.rh_rule_text.specs.Proper.{is_proper_word};
+ghost use Rattle.rh_rule_text.specs.Source.{file_words};
+ghost use Rattle.rh_rule_text.specs.Reading.{offset_at, IsText, FaultsAs, LexFaultsAs, ParseFaultsAs, IsResolved, ResolveFaultsAs};
+
+use crate::cursor::Cursor;
+use crate::fault::RulesFault;
+use crate::file::{facts_of, rules_of, schemas_of, unknown_in_items};
+use crate::grammar::{FILE, RULE_FILES};
+use crate::source::SourceFile;
+use crate::word::{Word, classes_of, words_of};
+use rh_grammar::{ParseFault, parse};
+use rh_rule::{RuleFault, RuleFile};
+use rh_text::{LexFault, TEXT_LIMIT, Token, tokens};
+use std::alloc::{AllocError, Global};
+
+fn tokens_of(alloc: Global, text: &[u8]) -> Result<Vec<Token>, RulesFault>
+    requires { length text.now ≤ TEXT_LIMIT }
+    ensures tokens { IfOk result (λ tokens. AreTokens text.now tokens.items) }
+    ensures each { IfOk result (λ tokens. All (IsTokenOf text.now) tokens.items) }
+    ensures fault { IfErr result (LexFaultsAs text.now) }
+{
+    match tokens(alloc, text) {
+        Ok(tokens) => Ok(tokens),
+        Err(LexFault::NoMemory) => Err(RulesFault::NoMemory),
+        Err(fault) => Err(RulesFault::Lex(fault)),
+    }
+}
+
+fn offset_at(text: &[u8], tokens: &[Token], place: usize) -> u32
+    requires { length text.now ≤ TEXT_LIMIT }
+    ensures { result ≡ offset_at text.now tokens.now place }
+{
+    match tokens.get(place) {
+        Some(token) => token.start,
+        None => text.len() as u32,
+    }
+}
+
+/// The productions by which words are a rule file, or the offset of the syntax fault.
+fn productions_of(
+    alloc: Global,
+    text: &[u8],
+    tokens: &[Token],
+    words: &[Word],
+) -> Result<Vec<u8>, RulesFault>
+    requires { length text.now ≤ TEXT_LIMIT }
+    ensures derives { IfOk result (λ taken. Derives productions (Rule file ∷ []) taken.items (map class_of words.now)) }
+    ensures fault { IfErr result (ParseFaultsAs text.now tokens.now (map class_of words.now)) }
+{
+    let classes = classes_of(alloc, words)?;
+    match parse(alloc, &RULE_FILES, FILE, classes.as_slice()) {
+        Ok(taken) => Ok(taken),
+        Err(ParseFault::Syntax(place)) => Err(RulesFault::Syntax(offset_at(text, tokens, place))),
+        Err(ParseFault::NoMemory) => Err(RulesFault::NoMemory),
+    }
+}
+
+/// The source that words spell.
+fn source_of(alloc: Global, taken: &[u8], words: &[Word]) -> Result<SourceFile, AllocError>
+    requires { Derives productions (Rule file ∷ []) taken.now (map class_of words.now) }
+    ensures { IfOk result (λ source. words.now ≡ file_words source) }
+{
+    let mut cursor = Cursor {
+        productions: taken,
+        words,
+    };
+    cursor.file(alloc)
+}
+
+/// The rule file of a source.
+fn resolved(alloc: Global, source: &SourceFile) -> Result<RuleFile, RulesFault>
+    requires { list_all is_proper_word (file_words source.now) ≡ true }
+    ensures rules { IfOk result (IsResolved source.now) }
+    ensures fault { IfErr result (ResolveFaultsAs source.now) }
+{
+    let items = source.items.as_slice();
+    let facts = facts_of(alloc, items)?;
+    if let Some(at) = unknown_in_items(alloc, &facts, items)? {
+        return Err(RulesFault::Unknown(at));
+    }
+    let schemas = schemas_of(alloc, items)?;
+    let rules = rules_of(alloc, &facts, items)?;
+    match RuleFile::new(schemas, rules) {
+        Ok(file) => Ok(file),
+        Err(RuleFault::NoMemory) => Err(RulesFault::NoMemory),
+        Err(fault) => Err(RulesFault::Rules(fault)),
+    }
+}
+
+/// The rule file of a text, or the text's fault. A text has one fault: the first lexical one, or
+/// else the syntax, or else the first unknown name, or else the first check that fails.
+pub fn read_rules(alloc: Global, src: &[u8]) -> Result<RuleFile, RulesFault>
+    requires { length src.now ≤ 1048576 }
+    ensures rules { IfOk result (λ rules. IsText src.now rules) }
+    ensures fault { IfErr result (FaultsAs src.now) }
+{
+    let tokens = tokens_of(alloc, src)?;
+    let words = words_of(alloc, src, tokens.as_slice())?;
+    let taken = productions_of(alloc, src, tokens.as_slice(), words.as_slice())?;
+    let source = source_of(alloc, taken.as_slice(), words.as_slice())?;
+    resolved(alloc, &source)
+}
