@@ -13,6 +13,6 @@ mod truth;
 
 pub use branch::expand;
 pub use checker::{check, root};
-pub use log::{Log, LogNode};
+pub use log::{Admission, Log, LogNode};
 pub use open::is_open;
 pub use truth::{is_true, width};

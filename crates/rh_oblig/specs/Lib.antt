@@ -10,3 +10,4 @@ pub mod Valid
 pub mod View
 pub mod Sorts
 pub mod Laws
+pub mod Ruling

@@ -2,7 +2,9 @@
 ghost use Rattle.std.specs.Prelude.{ℕ, ◌≡◌, ◌<◌, ◌≤◌, ◌^◌, Err, IfOk, None, OnOk, Some, length};
 ghost use Rattle.rh_oblig.specs.Goals.{goals};
 ghost use Rattle.rh_oblig.specs.Hypotheses.{hypotheses};
+ghost use Rattle.rh_oblig.specs.Laws.{HasTermLists};
 ghost use Rattle.rh_term.specs.Laws.{denial};
+ghost use Rattle.rh_term.specs.Term.{IsTermList};
 ghost use Rattle.std.specs.List.{AllByRecursion, flat_map};
 ghost use Rattle.rh_oblig.specs.Obligation.{clause_in, clauses_in, first_excess, lit_in, obligation_clauses, obligations_of, parts_of};
 ghost use Rattle.rh_oblig.specs.Sorts.{IsIn, IsSorted};
@@ -62,6 +64,7 @@ pub fn obligations(
 ) -> Result<Vec<Obligation>, ObligFault>
     requires { length rule.now.params < 2 ^ 32 }
     ensures made { IfOk result (λ made. parts_of made.items ≡ obligations_of schemas.now rule.now) }
+    ensures lists { OnOk result (HasTermLists schemas.now rule.now) }
     ensures small { OnOk result (first_excess schemas.now rule.now (goals schemas.now rule.now) ≡ None) }
     ensures too_many { (count : ℕ) → result ≡ Err (ObligFault.TooManyTerms count)
         → first_excess schemas.now rule.now (goals schemas.now rule.now) ≡ Some count }
@@ -87,6 +90,7 @@ fn obligation(
     requires goal { AllByRecursion IsSorted (literal_trees (lit_of goal.now)) }
     ensures terms { IfOk result (λ made. made.terms ≡ term_list rule.now.params rule.now.pattern (clauses_of taken.now) (lit_of goal.now)) }
     ensures clauses { IfOk result (λ made. made.clauses ≡ obligation_clauses made.terms (clauses_of taken.now) (lit_of goal.now)) }
+    ensures list { IfOk result (λ made. IsTermList made.terms) }
     ensures small { OnOk result (length (term_list rule.now.params rule.now.pattern (clauses_of taken.now) (lit_of goal.now)) ≤ 512) }
     ensures too_many { (count : ℕ) → result ≡ Err (ObligFault.TooManyTerms count)
         → (512 < count) × (count ≡ length (term_list rule.now.params rule.now.pattern (clauses_of taken.now) (lit_of goal.now))) }

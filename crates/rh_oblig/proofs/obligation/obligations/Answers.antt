@@ -4,6 +4,7 @@ use Rattle.std.proofs.lemmas.List.{map-append}
 use Rattle.rh_term.specs.declared.obligation.Obligation.{Obligation}
 use Rattle.rh_term.specs.declared.term.Term.{Term}
 use Rattle.rh_term.specs.declared.clause.Clause.{Clause}
+use Rattle.rh_term.specs.Term.{IsTermList}
 use Rattle.rh_oblig.specs.declared.literal.TreeLit.{TreeLit as BuiltLit}
 use Rattle.rh_oblig.specs.declared.hypotheses.TreeClause.{TreeClause as BuiltClause}
 use Rattle.rh_oblig.specs.declared.obligation.ObligFault.TheVariants.{TooManyTerms}
@@ -14,7 +15,7 @@ use Rattle.rh_oblig.specs.Obligation.{first_excess, parts_of, terms_of}
 use Rattle.rh_oblig.specs.Sorts.{IsSorted}
 use Rattle.rh_oblig.specs.TermList.{clause_trees, literal_trees, term_list}
 use Rattle.rh_oblig.specs.View.{clauses_of, lit_of, lits_of}
-use Rattle.rh_oblig.proofs.Each.{err_is, excess_more, part_for, part_is, parts_more, sorted_at, too_many_at}
+use Rattle.rh_oblig.proofs.Each.{err_is, excess_more, list_more, part_for, part_is, parts_more, sorted_at, too_many_at}
 use Rattle.rh_oblig.proofs.RuleTrees.{goals_sorted, hypotheses_sorted}
 use Rattle.rh_oblig.proofs.obligation.obligations.Goals as goal
 
@@ -72,5 +73,7 @@ loop-goal-preserved c =
           ∙ ap (λ (front : List Part). front ++ part_of c.in_ok-obligation.field-0 ∷ []) c.loop-goal.invariant.made
           ∙ ap (λ (part : Part). map (part_for schemas rule) (lits_of (take i goals)) ++ part ∷ []) (made ∙ ap (λ (goal : BuiltLit). part_for schemas rule (lit_of goal)) c.goal-item.is)
           ∙ sym (parts_more schemas rule goals i item c.loop-goal-test.true);
+      lists = list_more schemas rule goals i item c.loop-goal-test.true c.loop-goal.invariant.lists
+          (subst IsTermList (ap (λ (part : Part). part.0) made ∙ ap (λ (goal : BuiltLit). terms_of schemas rule (lit_of goal)) c.goal-item.is) c.in_ok-obligation.ensures.list);
       small = excess_more schemas rule goals i item c.loop-goal-test.true c.loop-goal.invariant.small (subst (λ n. n ≤ 512) size c.in_ok-obligation.ensures.small);
     }

@@ -1,0 +1,4 @@
+pub mod Deciding
+pub mod Rulings
+pub mod Telling
+pub mod Small

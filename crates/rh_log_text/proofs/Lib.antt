@@ -1,0 +1,9 @@
+pub mod Numbers
+pub mod LineBack
+pub mod Cutting
+pub mod LevelsOf
+pub mod Machine
+pub mod Going
+pub mod Steps
+pub mod Printed
+pub mod Only

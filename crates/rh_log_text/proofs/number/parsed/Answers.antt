@@ -1,0 +1,14 @@
+use Rattle.std.proofs.Common.{ℕ, List, decimal, IsUtf8, arith, ap, sym, subst, ◌∙◌}
+use Rattle.std.specs.Result.{result_ok}
+use Rattle.std.proofs.lemmas.Fmt.{IsAscii-decimal, parse-decimal}
+use Rattle.std.proofs.lemmas.Str.{IsUtf8-from_ascii}
+use Rattle.rh_log_text.proofs.number.parsed.Goals as goal
+
+pub returns-in-Ok : goal.returns-in-Ok
+returns-in-Ok c = λ n small is.
+    c.ok.ensures.value
+    ∙ ap result_ok (parse-decimal 32 n c.in-Ok.text.now c.parse.result small (omega (arith, small)) (c.in-Ok.ensures.cases.0 ∙ is) c.parse.ensures.value.0)
+
+pub returns-in-Err : goal.returns-in-Err
+returns-in-Err c = λ n small is.
+    absurd (c.in-Err.ensures.cases.0 (subst (λ (bytes : List ℕ). IsUtf8 bytes) (sym is) (IsUtf8-from_ascii (decimal n) (IsAscii-decimal n (omega (arith, small))))))
