@@ -1,12 +1,14 @@
 -- The constants of a procedure.
 use Rattle.std.specs.Prelude.{ℤ, pos, int_lt, Bool, List, [], ◌∷◌, ◌++◌, if◌then◌else◌}
-use Rattle.std.specs.List.{flat_map, list_any}
+use Rattle.std.specs.List.{AllByRecursion, flat_map, list_any}
 use Rattle.std.specs.Ordering.{int_eq}
 use Rattle.rh_il.specs.declared.program.Base.{Base}
 use Rattle.rh_il.specs.declared.program.Base.TheVariants.{Var, Num}
 use Rattle.rh_il.specs.declared.program.Proc.{Proc}
 use Rattle.rh_il.specs.declared.program.Stmt.{Stmt}
 use Rattle.rh_il.specs.declared.program.Stmt.TheVariants.{Copy, Compute, Write, Call, If, Return}
+use Rattle.rh_il.specs.Value.{IsNumber}
+use Rattle.rh_ground.specs.Each.{Each}
 
 abbrev pub base_numbers : Base → List ℤ
 base_numbers (Num number) = number ∷ []
@@ -38,3 +40,7 @@ constants_of proc = rising (pos 0 ∷ pos 1 ∷ flat_map operand_numbers proc.bo
 
 abbrev pub is_constant : Proc → ℤ → Bool
 is_constant proc number = list_any (int_eq number) (constants_of proc)
+
+-- the numbers in the statements of the procedure are of 64 bits
+abbrev pub HasNumbers : Proc → Type 0
+HasNumbers proc = Each (λ stmt. AllByRecursion IsNumber (operand_numbers stmt)) proc.body

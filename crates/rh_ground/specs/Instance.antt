@@ -1,5 +1,5 @@
 -- Instances of rules.
-use Rattle.std.specs.Prelude.{ℕ, Bool, true, false, not, ◌&&◌, IsTrue, List, map, Contains, slice_get}
+use Rattle.std.specs.Prelude.{Bool, true, false, not, ◌&&◌, IsTrue, map, Contains, slice_get}
 use Rattle.std.specs.List.{list_all}
 use Rattle.std.specs.Option.{option_map_or}
 use Rattle.rh_il.specs.declared.program.Node.{Node}
@@ -22,12 +22,8 @@ use Rattle.rh_rule.specs.declared.rule.SideTerm.{SideTerm}
 use Rattle.rh_rule.specs.declared.rule.SideTerm.TheVariants.{Plain, Compute}
 use Rattle.rh_ground.specs.Binding.{Binding, arg_eq, arg_under, as_number, bindings}
 use Rattle.rh_ground.specs.Constants.{is_constant}
+use Rattle.rh_ground.specs.Facts.{GroundFact}
 use Rattle.rh_ground.specs.Match.{matches, is_variable}
-
--- a fact without metavariables: a schema by its number, and its arguments
-pub record GroundFact : Type 0 where
-  pub schema : ℕ
-  pub args : List Arg
 
 -- what a side term stands for; an operator stands between numbers
 abbrev pub side_arg : Binding → SideTerm → Arg

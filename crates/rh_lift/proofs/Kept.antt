@@ -34,9 +34,10 @@ use Rattle.rh_oblig.specs.Goals.{goals, conclusion_goals, template_goals}
 use Rattle.rh_oblig.specs.Meaning.{fact_literals}
 use Rattle.rh_oblig.specs.Statement.{before, address, value, step_literals, store_after}
 use Rattle.rh_oblig.specs.Valid.{denotation, is_true_in, are_true_in, IsSound}
-use Rattle.rh_lift.specs.Template.{model_at, IsPlain, IsSafe, IsTame, IsTemplateOf, AreMet, TemplatesStep}
+use Rattle.rh_ground.specs.Template.{IsPlain, IsTame, IsTemplateOf}
+use Rattle.rh_lift.specs.Template.{model_at, IsSafe, AreMet, TemplatesStep}
 use Rattle.rh_lift.proofs.Cells.{same_reads}
-use Rattle.rh_lift.proofs.Matched.{IsExact, matched}
+use Rattle.rh_ground.proofs.Matched.{IsExact, matched}
 use Rattle.rh_lift.proofs.Operands.{operand_value}
 use Rattle.rh_lift.proofs.Plain.{PlainStep, plain_step, steps_in, left_by}
 use Rattle.rh_lift.proofs.Truth.{units_true, both_true, goals_true, goals_apart}

@@ -1,6 +1,8 @@
 pub mod Cells
 pub mod Operands
 pub mod Plain
-pub mod Matched
 pub mod Truth
 pub mod Kept
+pub mod SafeStates
+pub mod Runs
+pub mod Returned

@@ -1,5 +1,5 @@
 -- Operands of a rule in the model of a state.
-use Rattle.std.proofs.Common.{ℕ, ◌≡◌, ◌+◌, ◌<◌, List, refl, ap, subst}
+use Rattle.std.proofs.Common.{ℕ, ◌≡◌, ◌+◌, List, refl, ap}
 use Rattle.rh_il.specs.declared.value.Value.{Value}
 use Rattle.rh_il.specs.declared.value.Value.TheVariants.{Num as ANumber}
 use Rattle.rh_il_step.specs.Step.{base_value}
@@ -17,7 +17,8 @@ use Rattle.rh_term.specs.Store.{read}
 use Rattle.rh_oblig.specs.Literal.{value_tree}
 use Rattle.rh_oblig.specs.Statement.{before, value}
 use Rattle.rh_oblig.specs.Valid.{denotation}
-use Rattle.rh_lift.specs.Template.{model_at, IsTame}
+use Rattle.rh_ground.specs.Template.{IsTame}
+use Rattle.rh_lift.specs.Template.{model_at}
 
 -- the value of a variable
 variable_value : (width base : ℕ) (cells : List Value) (arg : Arg) → FitsKind width AVar arg
@@ -44,13 +45,3 @@ operand_value width params binding base cells (Meta meta) fits tame =
     meta_value width binding base cells meta (kind_of params meta) (fits meta)
 operand_value width params binding base cells (Num number) fits tame = refl
 operand_value width params binding base cells Wild fits tame = absurd tame
-
-var_inside : (width : ℕ) (arg : Arg) → FitsKind width AVar arg → as_variable arg < width
-var_inside width (Var number) fits = fits
-var_inside width (Const number) fits = absurd fits
-
--- a variable lies in the store
-pub variable_inside : (width : ℕ) (params : List Param) (binding : Binding) (base : ℕ) (meta : ℕ)
-    → FitsBinding width params binding → kind_of params meta ≡ AVar → as_variable (bound binding meta) < width
-variable_inside width params binding base meta fits kind =
-    var_inside width (bound binding meta) (subst (λ k. FitsKind width k (bound binding meta)) kind (fits meta))

@@ -27,9 +27,11 @@ use Rattle.rh_term.specs.Store.{write, select, update}
 use Rattle.rh_oblig.specs.Tree.{Tree}
 use Rattle.rh_oblig.specs.Statement.{value, operator_literals, step_literals, store_after}
 use Rattle.rh_oblig.specs.Valid.{denotation, is_true_in}
-use Rattle.rh_lift.specs.Template.{model_at, IsTame, IsPlain, IsSafe}
+use Rattle.rh_ground.specs.Template.{IsTame, IsPlain}
+use Rattle.rh_lift.specs.Template.{model_at, IsSafe}
 use Rattle.rh_lift.proofs.Cells.{write_inside}
-use Rattle.rh_lift.proofs.Operands.{operand_value, variable_inside}
+use Rattle.rh_ground.proofs.Fitting.{variable_inside}
+use Rattle.rh_lift.proofs.Operands.{operand_value}
 
 -- the step literals of a form are true in a model
 abbrev pub steps_in : List Param → Model → Form → Bool
@@ -108,7 +110,7 @@ module _ (width : ℕ) (params : List Param) (binding : Binding) (procs : List P
   model = model_at binding top.base cells
 
   at_variable : (meta : ℕ) → kind_of params meta ≡ AVar → top.base + as_variable (bound binding meta) < length cells
-  at_variable meta kind = let inside = variable_inside width params binding top.base meta fits kind in omega (arith, safe.inside)
+  at_variable meta kind = let inside = variable_inside width params binding meta fits kind in omega (arith, safe.inside)
 
   value_is : (b : RuleBase) → IsTame b → value_of (denotation model (value params b)) ≡ base_value cells top.base (base_under binding b)
   value_is b tame = ap value_of (operand_value width params binding top.base cells b fits tame)

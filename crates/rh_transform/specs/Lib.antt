@@ -1,1 +1,3 @@
+pub mod Bare
 pub mod Rewritten
+pub mod Laws

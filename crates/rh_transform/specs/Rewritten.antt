@@ -1,12 +1,10 @@
 -- The program that rules rewrite.
 use Rattle.std.specs.Prelude.{ℕ, Bool, ◌&&◌, List, [], ◌∷◌, ◌++◌, Option, map}
 use Rattle.std.specs.List.{list_all, find, enumerate_from}
-use Rattle.std.specs.Option.{option_map_or}
-use Rattle.rh_il.specs.declared.program.Edge.{Edge}
+use Rattle.std.specs.Option.{option_map, option_map_or}
 use Rattle.rh_il.specs.declared.program.Node.TheVariants.{At}
 use Rattle.rh_il.specs.declared.program.Proc.{Proc}
 use Rattle.rh_il.specs.declared.program.Stmt.{Stmt}
-use Rattle.rh_il.specs.Flow.{edges_into}
 use Rattle.rh_rule.specs.declared.rule.Conclusion.{Conclusion}
 use Rattle.rh_rule.specs.declared.rule.Conclusion.TheVariants.{Fact, Transform}
 use Rattle.rh_rule.specs.declared.rule.Form.{Form}
@@ -14,16 +12,10 @@ use Rattle.rh_rule.specs.declared.rule.Rule.{Rule}
 use Rattle.rh_rule.specs.declared.rule.Ruling.{Ruling}
 use Rattle.rh_rule.specs.declared.rule.Ruling.TheVariants.{Admitted, Refused}
 use Rattle.rh_ground.specs.Binding.{Binding, bindings}
-use Rattle.rh_ground.specs.Instance.{GroundFact, fact_under, is_instance}
+use Rattle.rh_ground.specs.Facts.{Known}
+use Rattle.rh_ground.specs.Instance.{is_instance}
+use Rattle.rh_ground.specs.Rows.{premises_at}
 use Rattle.rh_ground.specs.Match.{template_under}
-
--- which facts are known on the edges of which procedures
-abbrev pub Known : Type 0
-Known = ℕ → Edge → GroundFact → Bool
-
--- the fact is known on each edge that enters the node
-abbrev pub is_known_before : Known → ℕ → Proc → ℕ → GroundFact → Bool
-is_known_before known place proc number fact = list_all (λ edge. known place edge fact) (edges_into proc number)
 
 -- a rule under a binding
 pub record Candidate : Type 0 where
@@ -47,7 +39,12 @@ candidates proc (rule ∷ rules) (ruling ∷ rulings) = candidates_of proc rule 
 abbrev pub is_applicable : Known → ℕ → Proc → ℕ → Candidate → Bool
 is_applicable known place proc number candidate =
     is_instance proc candidate.rule candidate.binding (At number)
-    && list_all (λ fact. is_known_before known place proc number (fact_under candidate.binding fact)) candidate.rule.premises
+    && list_all known (premises_at place proc candidate.rule candidate.binding (At number))
+
+-- what one rule makes of a statement: the template of its first applicable candidate
+abbrev pub template_of : Known → ℕ → Proc → ℕ → Stmt → Rule → Ruling → Option Stmt
+template_of known place proc number stmt rule ruling =
+    option_map (λ candidate. template_under candidate.binding candidate.template stmt) (find (is_applicable known place proc number) (candidates_of proc rule ruling rule.conclusion))
 
 -- the first applicable candidate
 abbrev pub first_applicable : Known → List Rule → List Ruling → ℕ → Proc → ℕ → Option Candidate

@@ -17,7 +17,7 @@ use Rattle.rh_rule.specs.declared.rule.RuleBase.{RuleBase}
 use Rattle.rh_rule.specs.declared.rule.RuleBase.TheVariants.{Meta, Num, Wild}
 use Rattle.rh_ground.specs.Binding.{Binding, arg_eq, bound, as_variable, base_under, variable_under}
 use Rattle.rh_ground.specs.Match.{base_eq, is_variable, is_operand, matches, template_under}
-use Rattle.rh_lift.specs.Template.{IsTame}
+use Rattle.rh_ground.specs.Template.{IsTame}
 
 base_eq-true : (a b : Base) → base_eq a b ≡ true → a ≡ b
 base_eq-true (AVariable a) (AVariable b) e = ap AVariable (eqb-true a b e)

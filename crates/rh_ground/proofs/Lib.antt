@@ -1,0 +1,5 @@
+pub mod Matched
+pub mod Shapes
+pub mod Members
+pub mod Fitting
+pub mod Searching

@@ -1,0 +1,67 @@
+//! What metavariables are bound to.
+ghost use Rattle.std.specs.Prelude.{◌≡◌};
+ghost use Rattle.rh_ground.specs.Binding.{arg_eq, arg_under, as_base, as_variable, base_under, bound, variable_under};
+
+use rh_il::Base;
+use rh_rule::{Arg, RuleBase};
+
+/// Whether two arguments are one.
+pub(crate) fn arg_eq(a: Arg, b: Arg) -> bool
+    ensures { result ≡ arg_eq a b }
+{
+    match (a, b) {
+        (Arg::Var(a), Arg::Var(b)) => a == b,
+        (Arg::Const(a), Arg::Const(b)) => a == b,
+        _ => false,
+    }
+}
+
+/// What a metavariable is bound to.
+pub(crate) fn bound(binding: &[Arg], meta: u32) -> Arg
+    ensures { result ≡ bound binding.now meta }
+{
+    binding.get(meta as usize).copied().unwrap_or(Arg::Const(0))
+}
+
+/// The operand of a statement that an argument is.
+pub(crate) fn as_base(arg: Arg) -> Base
+    ensures { result ≡ as_base arg }
+{
+    match arg {
+        Arg::Var(number) => Base::Var(number),
+        Arg::Const(number) => Base::Num(number),
+    }
+}
+
+fn as_variable(arg: Arg) -> u32
+    ensures { result ≡ as_variable arg }
+{
+    match arg {
+        Arg::Var(number) => number,
+        Arg::Const(_) => 0,
+    }
+}
+
+fn arg_under(binding: &[Arg], base: RuleBase) -> Arg
+    ensures { result ≡ arg_under binding.now base }
+{
+    match base {
+        RuleBase::Meta(meta) => bound(binding, meta),
+        RuleBase::Num(number) => Arg::Const(number),
+        RuleBase::Wild => Arg::Const(0),
+    }
+}
+
+/// The operand of a statement that an operand of a rule is under a binding.
+pub(crate) fn base_under(binding: &[Arg], base: RuleBase) -> Base
+    ensures { result ≡ base_under binding.now base }
+{
+    as_base(arg_under(binding, base))
+}
+
+/// The variable that a metavariable is bound to.
+pub(crate) fn variable_under(binding: &[Arg], meta: u32) -> u32
+    ensures { result ≡ variable_under binding.now meta }
+{
+    as_variable(bound(binding, meta))
+}

@@ -1,0 +1,8 @@
+pub mod InRange
+pub mod Candidates
+pub mod Numbered
+pub mod Passing
+pub mod Fronts
+pub mod Applying
+pub mod Made
+pub mod FromFiles
