@@ -1,0 +1,2 @@
+pub mod WithoutFacts
+pub mod Adding

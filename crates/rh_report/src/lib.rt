@@ -1,0 +1,6 @@
+//! What `opt` writes.
+#![tactic(auto)]
+
+mod lines;
+
+pub use lines::report;

@@ -1,0 +1,180 @@
+-- What `opt` prints is its result.
+use Rattle.std.proofs.Common.{ℕ, zero, suc, ◌≡◌, Bool, true, false, ◌&&◌, List, [], ◌∷◌, ◌++◌, map, length, Some, Result, Ok, Err, refl, ap, sym, ◌∙◌, subst, arith}
+use Rattle.std.proofs.lemmas.Bool.{and_parts, eqb-true}
+use Rattle.std.specs.List.{AllZip, list_all}
+use Rattle.std.specs.Prelude.{IfOk, slice_get}
+use Rattle.rh_admit.specs.Rules.{IsTold}
+use Rattle.rh_il.specs.declared.program.Proc.{Proc}
+use Rattle.rh_il.specs.declared.program.Stmt.{Stmt}
+use Rattle.rh_il.specs.declared.program.Stmt.TheVariants.{Skip, Copy, Address, Load, Compute, Write, New, Call, Goto, If, Return}
+use Rattle.rh_il.specs.Checks.{IsProgram}
+use Rattle.rh_log.specs.declared.log.Admission.{Admission}
+use Rattle.rh_log.specs.Admission.{ruling_of}
+use Rattle.rh_oblig.specs.Ruling.{IsRuling}
+use Rattle.rh_oblig.proofs.Sound.{admitted_are_sound}
+use Rattle.rh_oblig.specs.Valid.{IsSound}
+use Rattle.rh_il_text.specs.Text.{program_text}
+use Rattle.rh_report.specs.Output.{rule_lines}
+use Rattle.rh_report.proofs.WithoutFacts.{nothing_is_greatest, opt_without_facts}
+use Rattle.rh_transform.specs.Rewritten.{rewritten}
+use Rattle.rh_top.specs.Result.{IsResult}
+use Rattle.rh_rule.specs.declared.rule.Conclusion.{Conclusion}
+use Rattle.rh_rule.specs.declared.rule.Conclusion.TheVariants.{Transform, Fact}
+use Rattle.rh_rule.specs.declared.rule.Form.{Form}
+use Rattle.rh_rule.specs.declared.rule.Rule.{Rule}
+use Rattle.rh_rule.specs.declared.rule.Ruling.{Ruling}
+use Rattle.rh_rule.specs.declared.rule.Ruling.TheVariants.{Admitted}
+use Rattle.rh_rule.specs.declared.schema.Kind.{Kind}
+use Rattle.rh_rule.specs.declared.schema.Kind.TheVariants.{Var, Const}
+use Rattle.rh_rule.specs.declared.schema.Param.{Param}
+use Rattle.rh_rule.specs.declared.schema.Schema.{Schema}
+use Rattle.rh_rule.specs.Kinds.{is_var_kind}
+use Rattle.rh_rule.specs.RuleFiles.{Rules, IsRuleFile}
+use Rattle.rh_ground.specs.Constants.{HasNumbers}
+use Rattle.rh_ground.specs.Each.{Each}
+use Rattle.rh_ground.specs.Search.{AreVars}
+use Rattle.rh_transform.specs.Bare.{IsBare}
+use Rattle.rh_transform.proofs.FromFiles.{bare_rules}
+use Rattle.rh_lift.specs.Runs.{AreSound, AreStraight, is_call}
+use Rattle.rh_lift.proofs.Returned.{returns_kept}
+use Rattle.rh_top.specs.Stage.{is_built_conclusion, is_built_file, is_built_form, is_built_program, is_built_rule, is_built_stmt, is_empty}
+
+-- ---- rulings
+
+ruled_by : (schemas : List Schema) (rules : List Rule) (admissions : List Admission) → AllZip (IsTold schemas) rules admissions → AllZip (IsRuling schemas) rules (map ruling_of admissions)
+ruled_by schemas [] [] told = tt
+ruled_by schemas [] (a ∷ admissions) told = absurd told
+ruled_by schemas (rule ∷ rules) [] told = absurd told
+ruled_by schemas (rule ∷ rules) (a ∷ admissions) told = (told.0.ruled, ruled_by schemas rules admissions told.1)
+
+pub as_many : (schemas : List Schema) (rules : List Rule) (admissions : List Admission) → AllZip (IsTold schemas) rules admissions → length rules ≡ length (map ruling_of admissions)
+as_many schemas [] [] told = refl
+as_many schemas [] (a ∷ admissions) told = absurd told
+as_many schemas (rule ∷ rules) [] told = absurd told
+as_many schemas (rule ∷ rules) (a ∷ admissions) told = ap suc (as_many schemas rules admissions told.1)
+
+sound_one : (schemas : List Schema) (rule : Rule) (admission : Admission) → IsTold schemas rule admission → ruling_of admission ≡ Admitted → IsSound schemas rule
+sound_one schemas rule admission told is = admitted_are_sound schemas rule told.lists (subst (IsRuling schemas rule) is told.ruled)
+
+sound_by : (schemas : List Schema) (rules : List Rule) (admissions : List Admission) → AllZip (IsTold schemas) rules admissions → AreSound schemas rules (map ruling_of admissions)
+sound_by schemas [] [] told number rule read admitted = cc
+sound_by schemas [] (a ∷ admissions) told number rule read admitted = absurd told
+sound_by schemas (r ∷ rules) [] told number rule read admitted = absurd told
+sound_by schemas (r ∷ rules) (a ∷ admissions) told zero rule read admitted =
+    let same : r ≡ rule = cc in
+    let is : ruling_of a ≡ Admitted = cc in
+    subst (IsSound schemas) same (sound_one schemas r a told.0 is)
+sound_by schemas (r ∷ rules) (a ∷ admissions) told (suc number) rule read admitted = sound_by schemas rules admissions told.1 number rule read admitted
+
+-- ---- what is built
+
+empty_is : {X : Type 0} (xs : List X) → is_empty xs ≡ true → xs ≡ []
+empty_is [] empty = refl
+empty_is (x ∷ xs) empty = let size = eqb-true (suc (length xs)) 0 empty in absurd (omega (arith, size))
+
+passes_at : {X : Type 0} (test : X → Bool) (xs : List X) (i : ℕ) (x : X) → list_all test xs ≡ true → slice_get xs i ≡ Some x → test x ≡ true
+passes_at test [] i x all read = cc
+passes_at test (y ∷ ys) zero x all read = let same : y ≡ x = cc in subst (λ z. test z ≡ true) same (and_parts (test y) (list_all test ys) all).0
+passes_at test (y ∷ ys) (suc i) x all read = passes_at test ys i x (and_parts (test y) (list_all test ys) all).1 read
+
+var_is : (kind : Kind) → is_var_kind kind ≡ true → kind ≡ Var
+var_is Var is = refl
+var_is Const is = cc
+
+vars_are : (params : List Param) → list_all (λ param. is_var_kind param.kind) params ≡ true → AreVars params
+vars_are [] all = tt
+vars_are (param ∷ params) all =
+    let parts = and_parts (is_var_kind param.kind) (list_all (λ p. is_var_kind p.kind) params) all in
+    (var_is param.kind parts.0, vars_are params parts.1)
+
+record BuiltRule (rule : Rule) : Type 0 where
+  vars : AreVars rule.params
+  premises : rule.premises ≡ []
+  sides : rule.sides ≡ []
+  transforms : (template : Form) × (rule.conclusion ≡ Transform template)
+
+transform_is : (conclusion : Conclusion) → is_built_conclusion conclusion ≡ true → (template : Form) × (conclusion ≡ Transform template)
+transform_is (Transform template) built = (template, refl)
+transform_is (Fact fact slot) built = cc
+
+built_rule : (rule : Rule) → is_built_rule rule ≡ true → BuiltRule rule
+built_rule rule built =
+    let a = and_parts (list_all (λ param. is_var_kind param.kind) rule.params) (is_empty rule.premises && (is_empty rule.sides && (is_built_form rule.pattern && is_built_conclusion rule.conclusion))) built in
+    let b = and_parts (is_empty rule.premises) (is_empty rule.sides && (is_built_form rule.pattern && is_built_conclusion rule.conclusion)) a.1 in
+    let c = and_parts (is_empty rule.sides) (is_built_form rule.pattern && is_built_conclusion rule.conclusion) b.1 in
+    record { vars = vars_are rule.params a.0; premises = empty_is rule.premises b.0; sides = empty_is rule.sides c.0; transforms = transform_is rule.conclusion (and_parts (is_built_form rule.pattern) (is_built_conclusion rule.conclusion) c.1).1 }
+
+module _ (file : Rules) (is_file : IsRuleFile file) (built : is_built_file file ≡ true) where
+  no_schemas : file.schemas ≡ []
+  no_schemas = empty_is file.schemas (and_parts (is_empty file.schemas) (list_all is_built_rule file.rules) built).0
+
+  each_built : (number : ℕ) (rule : Rule) → slice_get file.rules number ≡ Some rule → BuiltRule rule
+  each_built number rule read = built_rule rule (passes_at is_built_rule file.rules number rule (and_parts (is_empty file.schemas) (list_all is_built_rule file.rules) built).1 read)
+
+  all_transform : Each (λ rule. (template : Form) × (rule.conclusion ≡ Transform template)) file.rules
+  all_transform number rule read = (each_built number rule read).transforms
+
+  pub bare : Each IsBare file.rules
+  bare = bare_rules file is_file (λ number rule read. (each_built number rule read).vars) (λ number rule read. (each_built number rule read).premises) (λ number rule read. (each_built number rule read).sides)
+
+-- ---- the program
+
+built_no_call : (stmt : Stmt) → is_built_stmt stmt ≡ true → is_call stmt ≡ false
+built_no_call Skip built = refl
+built_no_call (Copy to from) built = refl
+built_no_call (Address to of) built = refl
+built_no_call (Load to from) built = refl
+built_no_call (Compute to op left right) built = refl
+built_no_call (Write to from) built = refl
+built_no_call (New to) built = refl
+built_no_call (Call to callee arg) built = cc
+built_no_call (Goto to) built = refl
+built_no_call (If condition taken other) built = refl
+built_no_call (Return value) built = refl
+
+bodies_built : (procs : List Proc) → is_built_program procs ≡ true → (place : ℕ) (proc : Proc) → slice_get procs place ≡ Some proc → list_all is_built_stmt proc.body ≡ true
+bodies_built [] built place proc read = cc
+bodies_built (p ∷ others) built zero proc read =
+    let same : p ≡ proc = cc in subst (λ q. list_all is_built_stmt q.body ≡ true) same (and_parts (is_empty others) (list_all is_built_stmt p.body) built).1
+bodies_built (p ∷ others) built (suc place) proc read =
+    let none : others ≡ [] = empty_is others (and_parts (is_empty others) (list_all is_built_stmt p.body) built).0 in
+    let absurdity : slice_get [] place ≡ Some proc = subst (λ ps. slice_get ps place ≡ Some proc) none read in
+    absurd cc
+
+pub straight : (procs : List Proc) → is_built_program procs ≡ true → Each HasNumbers procs → AreStraight procs
+straight procs built numbers place proc read number stmt here = record {
+  numbers = numbers place proc read number stmt here;
+  no_call = built_no_call stmt (passes_at is_built_stmt proc.body number stmt (bodies_built procs built place proc read) here);
+}
+
+-- the report is the result
+pub made_result : (file : Rules) (procs : List Proc) (admissions : List Admission) (text : List ℕ) → IsRuleFile file → is_built_file file ≡ true → IsProgram procs → is_built_program procs ≡ true → Each HasNumbers procs
+    → AllZip (IsTold file.schemas) file.rules admissions
+    → text ≡ rule_lines file.rules (map ruling_of admissions) ++ program_text (rewritten (λ fact. false) file.rules (map ruling_of admissions) procs)
+    → IsResult file procs text
+made_result file procs admissions text is_file built program built_program numbers told is =
+    record {
+      output = record {
+        rulings = map ruling_of admissions;
+        ruled = ruled_by file.schemas file.rules admissions told;
+        known = λ fact. false;
+        greatest = nothing_is_greatest file.rules (map ruling_of admissions) procs (all_transform file is_file built);
+        text_is = is ∙ sym (opt_without_facts file (map ruling_of admissions) (λ fact. false) procs (no_schemas file is_file built));
+      };
+      returns = λ arg value bound fits returns. returns_kept file.schemas file.rules (map ruling_of admissions) (λ fact. false) procs (sound_by file.schemas file.rules admissions told) (bare file is_file built) program
+          (straight procs built_program numbers) arg value bound fits returns;
+    }
+
+-- the parts of a report, each told by another name
+pub report_is : (rules rules' : List Rule) (rulings first rulings' : List Ruling) (after procs : List Proc) (text : List ℕ) → rules ≡ rules' → rulings ≡ rulings' → first ≡ rulings'
+    → after ≡ rewritten (λ fact. false) rules first procs → text ≡ rule_lines rules rulings ++ program_text after
+    → text ≡ rule_lines rules' rulings' ++ program_text (rewritten (λ fact. false) rules' rulings' procs)
+report_is rules rules' rulings first rulings' after procs text same same_rulings same_first after_is is =
+    let new : after ≡ rewritten (λ fact. false) rules' rulings' procs =
+    after_is ∙ ap (λ r. rewritten (λ fact. false) r first procs) same ∙ ap (λ l. rewritten (λ fact. false) rules' l procs) same_first in
+    is ∙ ap (λ r. rule_lines r rulings ++ program_text after) same ∙ ap (λ l. rule_lines rules' l ++ program_text after) same_rulings ∙ ap (λ a. rule_lines rules' rulings' ++ program_text a) new
+
+-- what is known of an answer
+pub of_ok : {T E : Type 0} (P Q : T → Type 0) (result : Result T E) → ((x : T) → P x → Q x) → IfOk result P → IfOk result Q
+of_ok P Q (Ok x) leads known = leads x known
+of_ok P Q (Err e) leads known = known

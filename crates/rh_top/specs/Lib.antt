@@ -1,0 +1,7 @@
+pub mod Status
+pub mod Stage
+pub mod Opt
+pub mod Input
+pub mod Result
+pub mod Ends
+pub mod Made

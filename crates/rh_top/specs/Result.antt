@@ -1,0 +1,19 @@
+-- What `opt` prints of a rule file and a program.
+use Rattle.std.specs.Prelude.{ℕ, ℤ, List}
+use Rattle.rh_il.specs.declared.program.Proc.{Proc}
+use Rattle.rh_il.specs.declared.value.Value.{Value}
+use Rattle.rh_il.specs.Value.{IsNumber}
+use Rattle.rh_il_step.specs.Run.{Returns}
+use Rattle.rh_report.specs.Output.{IsOutput}
+use Rattle.rh_rule.specs.RuleFiles.{Rules}
+use Rattle.rh_transform.specs.Rewritten.{rewritten}
+
+-- where the one program returns a value within n steps, so does the other
+abbrev pub KeepsReturns : List Proc → List Proc → Type 0
+KeepsReturns procs after = (arg : ℤ) (value : Value) (bound : ℕ) → IsNumber arg → Returns procs arg value bound → Returns after arg value bound
+
+-- The output of `opt` on a rule file and a program: the rulings, the facts, and the rewritten program, which
+-- keeps what the program returns.
+pub record IsResult (file : Rules) (procs : List Proc) (text : List ℕ) : Type 0 where
+  pub output : IsOutput file procs text
+  pub returns : KeepsReturns procs (rewritten output.known file.rules output.rulings procs)

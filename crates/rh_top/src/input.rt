@@ -1,0 +1,118 @@
+//! Reading the two files.
+ghost use Rattle.std.specs.Prelude.{ℕ, ◌≡◌, ◌≤◌, true, List, length, IfOk, IfErr, IfSome};
+ghost use Rattle.rh_top.specs.Input.{IsUnread, RefusesProgram, RefusesProgramIn, RefusesRules, RefusesRulesIn, unbuilt};
+ghost use Rattle.rh_top.specs.Opt.{IsBuiltProgram, IsBuiltRules};
+ghost use Rattle.rh_top.specs.Stage.{is_built_file, is_built_program};
+
+use crate::stage::{is_built_file, is_built_program};
+use crate::status::{Part, Status};
+use rh_il::Program;
+use rh_il_text::{ReadFault, read_program};
+use rh_outside::{ReadError, Shelf, read_whole};
+use rh_rule::RuleFile;
+use rh_rule_text::{RulesFault, read_rules};
+use std::alloc::Global;
+
+/// The most bytes of a file.
+const MOST_BYTES: usize = 65536;
+
+/// The number by which a file is told as not built.
+fn unbuilt(part: Part) -> Status
+    ensures { result ≡ unbuilt part }
+{
+    match part {
+        Part::Rules => Status::Unbuilt(1),
+        Part::Program => Status::Unbuilt(2),
+    }
+}
+
+/// The bytes of a file.
+fn read_file<S: Shelf>(
+    alloc: Global,
+    shelf: &mut S,
+    name: &str,
+    part: Part,
+) -> Result<Vec<u8>, Status>
+    ensures bytes { IfOk result (λ bytes. IfSome (S.holds shelf.old name.now) (λ held. bytes.items ≡ held)) }
+    ensures within { IfOk result (λ bytes. length bytes.items ≤ 65536) }
+    ensures refused { IfErr result (IsUnread part (S.holds shelf.old name.now) (S.faults shelf.old name.now) (S.faults shelf.new name.now)) }
+    ensures never_falls { (other : List ℕ) → S.faults shelf.old other ≤ S.faults shelf.new other }
+    ensures unchanged { (other : List ℕ) → S.holds shelf.new other ≡ S.holds shelf.old other }
+{
+    match read_whole(alloc, shelf, name, MOST_BYTES) {
+        Ok(bytes) => Ok(bytes),
+        Err(ReadError::Fault) => Err(Status::ReadFault(part)),
+        Err(ReadError::TooLong) => Err(unbuilt(part)),
+        Err(ReadError::NoMemory) => Err(Status::NoMemory),
+    }
+}
+
+/// The rule file of a text.
+fn built_rules(alloc: Global, bytes: &[u8]) -> Result<RuleFile, Status>
+    requires { length bytes.now ≤ 65536 }
+    ensures built { IfOk result (IsBuiltRules bytes.now) }
+    ensures refused { IfErr result (RefusesRules bytes.now) }
+{
+    match read_rules(alloc, bytes) {
+        Ok(file) => {
+            if is_built_file(&file) {
+                Ok(file)
+            } else {
+                Err(Status::Unbuilt(1))
+            }
+        }
+        Err(RulesFault::NoMemory) => Err(Status::NoMemory),
+        Err(_) => Err(Status::Unbuilt(1)),
+    }
+}
+
+/// The program of a text.
+fn built_program(alloc: Global, bytes: &[u8]) -> Result<Program, Status>
+    requires { length bytes.now ≤ 65536 }
+    ensures built { IfOk result (IsBuiltProgram bytes.now) }
+    ensures refused { IfErr result (RefusesProgram bytes.now) }
+{
+    match read_program(alloc, bytes) {
+        Ok(program) => {
+            if is_built_program(&program) {
+                Ok(program)
+            } else {
+                Err(Status::Unbuilt(2))
+            }
+        }
+        Err(ReadFault::NoMemory) => Err(Status::NoMemory),
+        Err(_) => Err(Status::Unbuilt(2)),
+    }
+}
+
+/// The rule file in a file.
+pub(crate) fn rules_in<S: Shelf>(
+    alloc: Global,
+    shelf: &mut S,
+    name: &str,
+) -> Result<RuleFile, Status>
+    ensures read { IfOk result (λ file. IfSome (S.holds shelf.old name.now) (λ bytes. IsBuiltRules bytes file)) }
+    ensures built { IfOk result (λ file. is_built_file file ≡ true) }
+    ensures refused { IfErr result (RefusesRulesIn (S.holds shelf.old name.now) (S.faults shelf.old name.now) (S.faults shelf.new name.now)) }
+    ensures never_falls { (other : List ℕ) → S.faults shelf.old other ≤ S.faults shelf.new other }
+    ensures unchanged { (other : List ℕ) → S.holds shelf.new other ≡ S.holds shelf.old other }
+{
+    let bytes = read_file(alloc, shelf, name, Part::Rules)?;
+    built_rules(alloc, bytes.as_slice())
+}
+
+/// The program in a file.
+pub(crate) fn program_in<S: Shelf>(
+    alloc: Global,
+    shelf: &mut S,
+    name: &str,
+) -> Result<Program, Status>
+    ensures read { IfOk result (λ program. IfSome (S.holds shelf.old name.now) (λ bytes. IsBuiltProgram bytes program)) }
+    ensures built { IfOk result (λ program. is_built_program program ≡ true) }
+    ensures refused { IfErr result (RefusesProgramIn (S.holds shelf.old name.now) (S.faults shelf.old name.now) (S.faults shelf.new name.now)) }
+    ensures never_falls { (other : List ℕ) → S.faults shelf.old other ≤ S.faults shelf.new other }
+    ensures unchanged { (other : List ℕ) → S.holds shelf.new other ≡ S.holds shelf.old other }
+{
+    let bytes = read_file(alloc, shelf, name, Part::Program)?;
+    built_program(alloc, bytes.as_slice())
+}

@@ -1,0 +1,144 @@
+//! The command `opt`.
+ghost use Rattle.std.specs.Prelude.{◌≡◌, true, map, IfOk, IfErr, IfSome};
+ghost use Rattle.std.specs.List.{AllZip};
+ghost use Rattle.rh_admit.specs.Rules.{IsTold};
+ghost use Rattle.rh_il.specs.Checks.{IsProgram};
+ghost use Rattle.rh_log.specs.Admission.{ruling_of};
+ghost use Rattle.rh_top.specs.Ends.{Ends, IsMade};
+ghost use Rattle.rh_top.specs.Made.{IsRefused, IsUnmade, RefusesWith, unmade};
+ghost use Rattle.rh_top.specs.Opt.{IsBuiltProgram};
+ghost use Rattle.rh_top.specs.Result.{IsResult};
+ghost use Rattle.rh_top.specs.Stage.{is_built_file, is_built_program};
+
+use crate::input::{program_in, rules_in};
+use crate::status::{Large, Status};
+use rh_admit::{AdmitFault, admit};
+use rh_il::Program;
+use rh_log::Admission;
+use rh_outside::{Shelf, Sink, write_whole};
+use rh_report::report;
+use rh_rule::{RuleFile, Ruling};
+use rh_transform::{numbers_fit, rewrite};
+use std::alloc::{AllocError, Global};
+
+fn rulings_of(alloc: Global, admissions: &[Admission]) -> Result<Vec<Ruling>, AllocError>
+    ensures { IfOk result (λ rulings. rulings.items ≡ map ruling_of admissions.now) }
+{
+    let mut rulings = Vec::with_capacity(alloc, admissions.len())?;
+    for admission in admissions {
+        rulings.push(admission.ruling())?;
+    }
+    Ok(rulings)
+}
+
+fn unmade(fault: AdmitFault) -> Status
+    ensures { result ≡ unmade fault }
+{
+    match fault {
+        AdmitFault::TooManyTerms { rule, count } => Status::TooLarge(Large::Terms { rule, count }),
+        AdmitFault::NoMemory => Status::NoMemory,
+    }
+}
+
+/// A law: a program passes every check.
+fn passes_checks(program: &Program)
+    ensures { IsProgram program.now }
+{
+    let _count = program.count();
+}
+
+/// What is printed, by what is ruled of the rules.
+fn text_of(
+    alloc: Global,
+    file: &RuleFile,
+    program: &Program,
+    admissions: &[Admission],
+) -> Result<Vec<u8>, AllocError>
+    requires built_file { is_built_file file.now ≡ true }
+    requires built_program { is_built_program program.now ≡ true }
+    requires told { AllZip (IsTold file.now.schemas) file.now.rules admissions.now }
+    ensures { IfOk result (λ text. IsResult file.now program.now text.items) }
+{
+    let rules = file.rules();
+    numbers_fit(program);
+    passes_checks(program);
+    let rulings = rulings_of(alloc, admissions)?;
+    let rewritten = rewrite(alloc, rules, rulings.as_slice(), program)?;
+    report(alloc, rules, rulings.as_slice(), &rewritten)
+}
+
+/// What is printed of a rule file and a program.
+fn result_of(alloc: Global, file: &RuleFile, program: &Program) -> Result<Vec<u8>, Status>
+    requires built_file { is_built_file file.now ≡ true }
+    requires built_program { is_built_program program.now ≡ true }
+    ensures result { IfOk result (λ text. IsResult file.now program.now text.items) }
+    ensures unmade { IfErr result (IsUnmade file.now) }
+{
+    match admit(alloc, file) {
+        Ok(admissions) => match text_of(alloc, file, program, admissions.as_slice()) {
+            Ok(text) => Ok(text),
+            Err(_) => Err(Status::NoMemory),
+        },
+        Err(fault) => Err(unmade(fault)),
+    }
+}
+
+/// What is printed of a rule file and of the program in a file.
+fn made_with<S: Shelf>(
+    alloc: Global,
+    file: &RuleFile,
+    program: &str,
+    shelf: &mut S,
+) -> Result<(Program, Vec<u8>), Status>
+    requires built_file { is_built_file file.now ≡ true }
+    ensures read { IfOk result (λ both. IfSome (S.holds shelf.old program.now) (λ bytes. IsBuiltProgram bytes both.0)) }
+    ensures result { IfOk result (λ both. IsResult file.now both.0 both.1.items) }
+    ensures refused { IfErr result (RefusesWith (S.holds shelf.old program.now) (S.faults shelf.old program.now) (S.faults shelf.new program.now) file.now) }
+{
+    match program_in(alloc, shelf, program) {
+        Ok(read) => match result_of(alloc, file, &read) {
+            Ok(text) => Ok((read, text)),
+            Err(status) => Err(status),
+        },
+        Err(status) => Err(status),
+    }
+}
+
+/// What is printed of the files of these names.
+fn made<S: Shelf>(
+    alloc: Global,
+    rules: &str,
+    program: &str,
+    shelf: &mut S,
+) -> Result<Vec<u8>, Status>
+    ensures made { IfOk result (λ text. IsMade (S.holds shelf.old) rules.now program.now text.items) }
+    ensures refused { IfErr result (IsRefused (S.holds shelf.old) (S.faults shelf.old) (S.faults shelf.new) rules.now program.now) }
+{
+    match rules_in(alloc, shelf, rules) {
+        Ok(file) => match made_with(alloc, &file, program, shelf) {
+            Ok((_, text)) => Ok(text),
+            Err(status) => Err(status),
+        },
+        Err(status) => Err(status),
+    }
+}
+
+/// Proves the rules, rewrites the program and writes the output. The whole output is made before its
+/// first byte is offered.
+pub(crate) fn opt<S: Shelf, K: Sink>(
+    alloc: Global,
+    rules: &str,
+    program: &str,
+    shelf: &mut S,
+    out: &mut K,
+) -> Status
+    ensures { Ends (S.holds shelf.old) (S.faults shelf.old) (S.faults shelf.new) (K.written out.old) (K.written out.new) (K.faults out.old) (K.faults out.new) rules.now program.now result }
+{
+    match made(alloc, rules, program, shelf) {
+        Ok(text) => match write_whole(out, text.as_slice()) {
+            Ok(()) => Status::Done,
+            Err(count) => Status::WriteFault(count as u64),
+        },
+        Err(status) => status,
+    }
+}
