@@ -20,4 +20,6 @@ pub use reader::read_rules;
 #[cfg(test)]
 mod read_tests;
 #[cfg(test)]
+mod round_trip_tests;
+#[cfg(test)]
 mod tests;
