@@ -4,3 +4,4 @@ pub mod Steps
 pub mod Stacks
 pub mod Passing
 pub mod Inversion
+pub mod Faults

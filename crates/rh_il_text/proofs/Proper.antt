@@ -57,7 +57,7 @@ locals_proper [] all = refl
 locals_proper (n ∷ ns) all =
     let split = and_parts (is_proper n) (list_all proper (more_words ns)) all in both (is_proper n) (list_all is_proper ns) split.0 (more_proper ns split.1)
 
-abbrev vars_words : List (List ℕ) → List Word
+abbrev pub vars_words : List (List ℕ) → List Word
 vars_words = vars_entries Name Name (λ word. word)
 
 vars_proper : (names : List (List ℕ)) → list_all proper (vars_words names) ≡ true → list_all is_proper names ≡ true

@@ -98,7 +98,7 @@ head_front α words d =
       derived = e.derived;
     }
 
-regroup : (vs ls last : List Word) → vs ++ SignWord OpenBrace ∷ (ls ++ SignWord CloseBrace ∷ last) ≡ ((vs ++ SignWord OpenBrace ∷ ls) ++ SignWord CloseBrace ∷ []) ++ last
+pub regroup : (vs ls last : List Word) → vs ++ SignWord OpenBrace ∷ (ls ++ SignWord CloseBrace ∷ last) ≡ ((vs ++ SignWord OpenBrace ∷ ls) ++ SignWord CloseBrace ∷ []) ++ last
 regroup vs ls last =
     sym (append_assoc (vs ++ SignWord OpenBrace ∷ ls) (SignWord CloseBrace ∷ []) last ∙ append_assoc vs (SignWord OpenBrace ∷ ls) (SignWord CloseBrace ∷ last))
 

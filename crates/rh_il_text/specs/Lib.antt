@@ -7,3 +7,4 @@ pub mod Parts
 pub mod Known
 pub mod Program
 pub mod Index
+pub mod Numbers

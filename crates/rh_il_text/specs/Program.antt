@@ -1,5 +1,5 @@
 -- What a byte list is a text of, and its one fault.
-use Rattle.std.specs.Prelude.{◌≡◌, ℕ, not, List, length, Option, Some, None, slice_get}
+use Rattle.std.specs.Prelude.{◌≡◌, ◌⊎◌, ℕ, not, List, length, Option, Some, None, Result, Ok, Err, slice_get}
 use Rattle.std.specs.List.{position}
 use Rattle.std.specs.Option.{option_map_or}
 use Rattle.rh_text.specs.declared.token.Token.{Token}
@@ -89,3 +89,13 @@ of_lexer NoLexMemory = NoMemory
 abbrev pub of_checks : ProgFault → ReadFault
 of_checks (Wrong kind proc item) = Program (Wrong kind proc item)
 of_checks NoProgMemory = NoMemory
+
+-- this program, or want of memory
+abbrev pub IsProgram : List Proc → Result (List Proc) ReadFault → Type 0
+IsProgram procs (Ok read) = read ≡ procs
+IsProgram procs (Err fault) = fault ≡ NoMemory
+
+-- this fault, or want of memory
+abbrev pub IsFault : ReadFault → Result (List Proc) ReadFault → Type 0
+IsFault fault (Ok read) = ⊥
+IsFault fault (Err other) = (other ≡ fault) ⊎ (other ≡ NoMemory)

@@ -3,31 +3,31 @@
 ghost use Rattle.std.specs.Prelude.{◌≡◌, IfOk};
 ghost use Rattle.std.specs.List.{position, list_any};
 ghost use Rattle.std.specs.Str.{bytes_eq};
-ghost use Rattle.rh_il_text.specs.Index.{IsIndexFrom};
+ghost use Rattle.rh_il_text.specs.Index.{IsIndex};
 
+use indexmap::IndexMap;
 use rh_il::Name;
 use std::alloc::{AllocError, Global};
-use std::collections::BTreeMap;
 use std::marker::Model;
 use std::str;
 
-/// A list of names in which the place of a name is looked up in a map, in the logarithm of their
-/// number. A name may stand in it more than once. Contracts see the list.
+/// A list of names in which the place of a name is looked up in a map that keeps the order in which
+/// they were first seen. A name may stand in the list more than once. Contracts see the list.
 #[derive(Drop)]
 pub struct Names {
     names: Vec<Name>,
-    places: BTreeMap<String, usize>,
+    places: IndexMap<String, usize>,
 }
 
 impl Model for Names {
     ghost use Rattle.std.specs.Prelude.{ℕ, List};
-    ghost use Rattle.rh_il_text.specs.Index.{IsIndexFrom};
+    ghost use Rattle.rh_il_text.specs.Index.{IsIndex};
 
     ghost Value = { List (List ℕ) };
 
     ghost view = { λ a. a.names.items };
 
-    ghost invariant = { λ a. IsIndexFrom a.places 0 a.names.items };
+    ghost invariant = { λ a. IsIndex a.places a.names.items };
 }
 
 /// A name as text.
@@ -41,15 +41,15 @@ fn text_of(name: &Name) -> &str
 }
 
 /// The first place of each name.
-fn index_of(alloc: Global, names: &[Name]) -> Result<BTreeMap<String, usize>, AllocError>
-    ensures { IfOk result (λ places. IsIndexFrom places 0 names.now) }
+fn index_of(alloc: Global, names: &[Name]) -> Result<IndexMap<String, usize>, AllocError>
+    ensures { IfOk result (λ places. IsIndex places names.now) }
 {
-    let mut places = BTreeMap::new(alloc);
-    let mut place = names.len();
-    while place > 0 {
-        place -= 1;
-        let key = String::from_str(alloc, text_of(&names[place]))?;
-        places.insert(key, place)?;
+    let mut places = IndexMap::new(alloc);
+    for (place, name) in names.iter().enumerate() {
+        let text = text_of(name);
+        if !places.contains_key(text) {
+            places.insert(String::from_str(alloc, text)?, place)?;
+        }
     }
     Ok(places)
 }

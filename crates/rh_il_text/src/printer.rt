@@ -3,8 +3,10 @@
 ghost use Rattle.std.specs.Prelude.{◌≡◌, ◌++◌, codes, IfOk, OnOk};
 ghost use Rattle.std.specs.List.{flat_map};
 ghost use Rattle.std.specs.Fmt.{decimal, signed_decimal};
+ghost use Rattle.rh_il_text.specs.Program.{IsText};
 ghost use Rattle.rh_il_text.specs.Text.{name_at, proc_name, op_text, base_text, to_text, compute_text, call_text, branch_text, stmt_text, line_text, locals_text, vars_text, proc_text, text_at, program_text};
 
+use crate::numbers::numbers_fit;
 use rh_il::{Base, Name, Op, Proc, Program, Stmt};
 use std::alloc::{AllocError, Global};
 
@@ -282,10 +284,12 @@ fn push_proc_at(
     }
 }
 
-/// The canonical text of a program.
+/// The canonical text of a program. It is a text of that program.
 pub fn print_program(alloc: Global, program: &Program) -> Result<Vec<u8>, AllocError>
-    ensures { IfOk result (λ text. text.items ≡ program_text program.now) }
+    ensures text { IfOk result (λ text. text.items ≡ program_text program.now) }
+    ensures again { IfOk result (λ text. IsText text.items program.now) }
 {
+    numbers_fit(program);
     let mut out = Vec::new(alloc);
     for number in 0..program.count() {
         push_proc_at(alloc, &mut out, program, number)?;

@@ -1,13 +1,16 @@
 //! Reads programs from bytes.
 
-ghost use Rattle.std.specs.Prelude.{◌≡◌, ◌≤◌, true, not, length, IfOk, IfErr, Some, None};
+ghost use Rattle.std.specs.Prelude.{◌≡◌, ◌≢◌, ◌≤◌, true, not, List, length, IfOk, IfErr, Some, None};
 ghost use Rattle.std.specs.List.{All, list_all, position};
 ghost use Rattle.rh_text.specs.Words.{IsTokenOf};
 ghost use Rattle.rh_text.specs.Pieces.{AreTokens};
+ghost use Rattle.rh_il.specs.declared.program.Proc.{Proc};
 ghost use Rattle.rh_il.specs.declared.fault.ProgFault.{ProgFault};
 ghost use Rattle.rh_il.specs.Checks.{has_proper_names, program_fault};
 ghost use Rattle.rh_il_text.specs.Words.{words_of, classes_of};
-ghost use Rattle.rh_il_text.specs.Program.{Spells, IsText, start_of, FaultsAs, of_lexer, of_checks};
+ghost use Rattle.rh_il_text.specs.Program.{Spells, IsText, start_of, FaultsAs, IsProgram, IsFault, of_lexer, of_checks};
+ghost use Rattle.rh_il_text.specs.declared.fault.ReadFault.{ReadFault};
+ghost use Rattle.rh_il_text.specs.declared.fault.ReadFault.TheVariants.{NoMemory};
 
 use crate::fault::ReadFault;
 use crate::judge::judge;
@@ -131,12 +134,13 @@ fn program_of(
 
 /// The program of which the bytes are a text, or their first fault.
 ///
-/// The input drives no recursion. Names are looked up in maps, so the time grows with the bytes times
-/// the logarithm of the most names of a procedure or of the file.
+/// The input drives no recursion. Names are looked up in hash maps, so the time grows with the bytes.
 pub fn read_program(alloc: Global, src: &[u8]) -> Result<Program, ReadFault>
     requires { length src.now ≤ TEXT_LIMIT }
     ensures program { IfOk result (IsText src.now) }
     ensures fault { IfErr result (FaultsAs src.now) }
+    ensures whole { (procs : List Proc) → IsText src.now procs → IsProgram procs result }
+    ensures first { (fault : ReadFault) → FaultsAs src.now fault → fault ≢ NoMemory → IsFault fault result }
 {
     match tokens(alloc, src) {
         Ok(tokens) => {

@@ -7,14 +7,14 @@ use std::process::Abort;
 use std::test::Fail;
 
 /// Texts longer than a text may be are not read.
-fn read(alloc: Global, text: &[u8]) -> Result<Program, ReadFault> {
+pub(crate) fn read(alloc: Global, text: &[u8]) -> Result<Program, ReadFault> {
     if text.len() > TEXT_LIMIT {
         return Err(ReadFault::NoMemory);
     }
     read_program(alloc, text)
 }
 
-fn wrong(kind: ProgWrong, proc: u32, item: u32) -> Option<ReadFault> {
+pub(crate) fn wrong(kind: ProgWrong, proc: u32, item: u32) -> Option<ReadFault> {
     Some(ReadFault::Program(ProgFault::Wrong { kind, proc, item }))
 }
 
@@ -125,5 +125,18 @@ fn most_variables(rt: HostRuntime) -> Result<(), Fail> {
     let more = text_with(rt.alloc(), 64)?;
     let want = wrong(ProgWrong::Limit(Limited::Vars), 0, 0);
     assert_eq!(rt; read(rt.alloc(), &more).err(), want);
+    Ok(())
+}
+
+#[test]
+fn longest_text(rt: HostRuntime) -> Result<(), Fail> {
+    let mut text = Vec::from_slice(rt.alloc(), b"main ( a ) { # c\nreturn -0 ; }")?;
+    for _ in text.len()..TEXT_LIMIT {
+        text.push(b' ')?;
+    }
+    assert_eq!(rt; text.len(), TEXT_LIMIT);
+    let program = read(rt.alloc(), &text).ok().expect(&rt, "a program");
+    let found = print_program(rt.alloc(), &program)?;
+    assert_eq!(rt; found.as_slice(), b"main(a) {\n  return 0;\n}\n".as_slice());
     Ok(())
 }

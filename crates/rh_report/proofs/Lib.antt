@@ -1,2 +1,3 @@
 pub mod WithoutFacts
 pub mod Adding
+pub mod Commented

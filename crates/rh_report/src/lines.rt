@@ -1,6 +1,9 @@
 //! A line for each rule, and the program behind them.
 ghost use Rattle.std.specs.Prelude.{◌≡◌, ◌++◌, IfOk, OnOk, length};
+ghost use Rattle.std.specs.List.{AllByRecursion};
+ghost use Rattle.rh_il_text.specs.Program.{IsText};
 ghost use Rattle.rh_il_text.specs.Text.{program_text};
+ghost use Rattle.rh_report.specs.Lines.{IsNamed, IsNumbered};
 ghost use Rattle.rh_report.specs.Output.{rule_line, rule_lines, ruling_text};
 
 use rh_il::Program;
@@ -48,8 +51,35 @@ fn push_rule_lines(
     Ok(())
 }
 
+/// A law: rules have names.
+fn are_named(rules: &[Rule])
+    ensures { AllByRecursion IsNamed rules.now }
+{
+    for rule in rules {
+        let _name = rule.name.bytes();
+    }
+}
+
+fn is_numbered(ruling: Ruling)
+    ensures { IsNumbered ruling }
+{
+    match ruling {
+        Ruling::Admitted => {}
+        Ruling::Refused(_obligation) => {}
+    }
+}
+
+/// A law: the numbers of obligations are those of 32 bits.
+fn are_numbered(rulings: &[Ruling])
+    ensures { AllByRecursion IsNumbered rulings.now }
+{
+    for ruling in rulings {
+        is_numbered(*ruling);
+    }
+}
+
 /// The output of `opt` for a rule file without schemas: each rule with what is ruled of it, and the
-/// rewritten program.
+/// rewritten program. The rules' lines are comments, so it is a text of that program.
 pub fn report(
     alloc: Global,
     rules: &[Rule],
@@ -57,8 +87,11 @@ pub fn report(
     q: &Program,
 ) -> Result<Vec<u8>, AllocError>
     requires { length rules.now ≡ length rulings.now }
-    ensures { IfOk result (λ text. text.items ≡ rule_lines rules.now rulings.now ++ program_text q.now) }
+    ensures text { IfOk result (λ text. text.items ≡ rule_lines rules.now rulings.now ++ program_text q.now) }
+    ensures program { IfOk result (λ text. IsText text.items q.now) }
 {
+    are_named(rules);
+    are_numbered(rulings);
     let mut out = Vec::new(alloc);
     push_rule_lines(alloc, &mut out, rules, rulings)?;
     push(&mut out, print_program(alloc, q)?.as_slice())?;

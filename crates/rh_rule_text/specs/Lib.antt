@@ -6,5 +6,8 @@ pub mod Lists
 pub mod Resolve
 pub mod Unknown
 pub mod Reading
+pub mod Answer
+pub mod Header
 pub mod Proper
 pub mod Text
+pub mod Ranges

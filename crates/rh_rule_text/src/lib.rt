@@ -6,7 +6,9 @@ mod cursor;
 mod fault;
 mod file;
 mod grammar;
+mod header;
 mod printer;
+mod ranges;
 mod reader;
 mod resolve;
 mod source;
@@ -14,9 +16,16 @@ mod unknown;
 mod word;
 
 pub use fault::RulesFault;
+pub use header::has_header;
 pub use printer::print_rules;
 pub use reader::read_rules;
 
+#[cfg(test)]
+mod check_tests;
+#[cfg(test)]
+mod fault_tests;
+#[cfg(test)]
+mod near_tests;
 #[cfg(test)]
 mod read_tests;
 #[cfg(test)]

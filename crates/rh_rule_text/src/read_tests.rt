@@ -1,12 +1,12 @@
 //! What texts are read as.
-use crate::{RulesFault, read_rules};
+use crate::{RulesFault, has_header, read_rules};
 use rh_rule::{Item, RuleFault, RuleWrong};
 use rh_text::{LexFault, TEXT_LIMIT};
 use std::test::Fail;
 
 const CON: &[u8] = b"fact con(var X,const C)means X==C;";
 
-fn wrong(kind: RuleWrong, item: Item) -> RulesFault {
+pub(crate) fn wrong(kind: RuleWrong, item: Item) -> RulesFault {
     RulesFault::Rules(RuleFault::Wrong { kind, item })
 }
 
@@ -88,4 +88,23 @@ fn accepted(rt: HostRuntime) -> Result<(), Fail> {
         assert_eq!(rt; file.rules().len(), rules, "at {text:?}");
     }
     Ok(())
+}
+
+#[test]
+fn header(rt: HostRuntime) {
+    let cases: [(&[u8], Result<bool, RulesFault>); 6] = [
+        (b"", Ok(false)),
+        (b" # first\n rhodium 1;", Ok(true)),
+        (b"rhodium 1; rule q() { skip => transform skip }", Ok(true)),
+        (CON, Ok(false)),
+        (
+            b"rule q() { skip => transform skip } # rhodium 1;",
+            Ok(false),
+        ),
+        (b"rhodium 1; ?", Err(RulesFault::Lex(LexFault::BadByte(11)))),
+    ];
+    for (text, want) in cases {
+        assert!(rt; text.len() <= TEXT_LIMIT);
+        assert_eq!(rt; has_header(rt.alloc(), text), want, "at {text:?}");
+    }
 }

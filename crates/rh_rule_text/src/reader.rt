@@ -1,11 +1,15 @@
 //! Reads rule files.
 
-ghost use Rattle.std.specs.Prelude.{◌≡◌, ◌≤◌, ◌∷◌, [], true, map, length, IfOk, IfErr};
+ghost use Rattle.std.specs.Prelude.{◌≡◌, ◌≢◌, ◌≤◌, ◌∷◌, [], true, map, length, IfOk, IfErr};
 ghost use Rattle.std.specs.List.{All, list_all};
 ghost use Rattle.rh_text.specs.Pieces.{AreTokens};
 ghost use Rattle.rh_text.specs.Words.{IsTokenOf};
 ghost use Rattle.rh_grammar.specs.declared.grammar.Symbol.TheVariants.{Rule};
 ghost use Rattle.rh_grammar.specs.Derivation.{Derives};
+ghost use Rattle.rh_rule.specs.RuleFiles.{Rules};
+ghost use Rattle.rh_rule_text.specs.declared.fault.RulesFault.{RulesFault};
+ghost use Rattle.rh_rule_text.specs.declared.fault.RulesFault.TheVariants.{NoMemory};
+ghost use Rattle.rh_rule_text.specs.Answer.{IsAnswer, IsRefusal};
 ghost use Rattle.rh_rule_text.specs.Grammar.{productions, file};
 ghost use Rattle.rh_rule_text.specs.Words.{class_of, word_of};
 ghost use Rattle.rh_rule_text.specs.Proper.{is_proper_word};
@@ -23,7 +27,7 @@ use rh_rule::{RuleFault, RuleFile};
 use rh_text::{LexFault, TEXT_LIMIT, Token, tokens};
 use std::alloc::{AllocError, Global};
 
-fn tokens_of(alloc: Global, text: &[u8]) -> Result<Vec<Token>, RulesFault>
+pub(crate) fn tokens_of(alloc: Global, text: &[u8]) -> Result<Vec<Token>, RulesFault>
     requires { length text.now ≤ TEXT_LIMIT }
     ensures tokens { IfOk result (λ tokens. AreTokens text.now tokens.items) }
     ensures each { IfOk result (λ tokens. All (IsTokenOf text.now) tokens.items) }
@@ -97,9 +101,8 @@ fn resolved(alloc: Global, source: &SourceFile) -> Result<RuleFile, RulesFault>
     }
 }
 
-/// The rule file of a text, or the text's fault. A text has one fault: the first lexical one, or
-/// else the syntax, or else the first unknown name, or else the first check that fails.
-pub fn read_rules(alloc: Global, src: &[u8]) -> Result<RuleFile, RulesFault>
+/// The rule file of a text, or a fault of the text.
+fn rules_in(alloc: Global, src: &[u8]) -> Result<RuleFile, RulesFault>
     requires { length src.now ≤ 1048576 }
     ensures rules { IfOk result (λ rules. IsText src.now rules) }
     ensures fault { IfErr result (FaultsAs src.now) }
@@ -109,4 +112,16 @@ pub fn read_rules(alloc: Global, src: &[u8]) -> Result<RuleFile, RulesFault>
     let taken = productions_of(alloc, src, tokens.as_slice(), words.as_slice())?;
     let source = source_of(alloc, taken.as_slice(), words.as_slice())?;
     resolved(alloc, &source)
+}
+
+/// The rule file of a text, or the text's fault. A text has one fault: the first lexical one, or
+/// else the syntax, or else the first unknown name, or else the first check that fails.
+pub fn read_rules(alloc: Global, src: &[u8]) -> Result<RuleFile, RulesFault>
+    requires { length src.now ≤ 1048576 }
+    ensures rules { IfOk result (λ rules. IsText src.now rules) }
+    ensures fault { IfErr result (FaultsAs src.now) }
+    ensures whole { (rules : Rules) → IsText src.now rules → IsAnswer rules result }
+    ensures refused { (fault : RulesFault) → FaultsAs src.now fault → fault ≢ NoMemory → IsRefusal fault result }
+{
+    rules_in(alloc, src)
 }

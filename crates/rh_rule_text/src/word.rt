@@ -163,7 +163,8 @@ fn name_word(bytes: &[u8], at: u32) -> Word
     }
 }
 
-fn word_of(text: &[u8], token: Token) -> Word
+/// What a token says.
+pub(crate) fn word_of(text: &[u8], token: Token) -> Word
     requires { IsTokenOf text.now token }
     ensures { result ≡ word_of text.now token }
 {

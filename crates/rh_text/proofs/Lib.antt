@@ -5,3 +5,6 @@ pub mod PieceLemmas
 pub mod DecimalLemmas
 pub mod TokenLemmas
 pub mod SignNumbers
+pub mod Unique
+pub mod Printing
+pub mod FirstFault

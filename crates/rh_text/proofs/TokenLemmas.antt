@@ -9,7 +9,7 @@ use Rattle.std.specs.Prelude.{slice_index}
 use Rattle.rh_text.specs.declared.token.TokenKind.{TokenKind}
 use Rattle.rh_text.specs.declared.token.TokenKind.TheVariants.{Lower, Upper, Number, Sign as SignKind}
 use Rattle.rh_text.specs.declared.token.Token.{Token}
-use Rattle.rh_text.specs.Pieces.{Piece, Space, Comment, Word, Digits, Mark, spelled, HasForm, IsWord, IsWithin, ArePieces, kind_of, name_kind, token_at, tokens_from, Splits}
+use Rattle.rh_text.specs.Pieces.{Piece, Space, Comment, Word, Digits, Mark, spelled, HasForm, IsWord, IsWithin, ArePieces, AreTokens, kind_of, name_kind, token_at, tokens_from, Splits}
 use Rattle.rh_text.specs.Signs.{sign_text}
 use Rattle.rh_text.proofs.PieceLemmas.{IsReadTo}
 use Rattle.rh_text.specs.Words.{piece_as, IsTokenOf}
@@ -22,7 +22,7 @@ all_cons P x xs first rest zero d below = first
 all_cons P x xs first rest (suc k) d below = rest k d (omega arith)
 
 -- what stands between two parts of a list
-between : (before middle after : List ℕ) (start end : ℕ) → start ≡ length before → end ≡ length before + length middle → slice_range (before ++ (middle ++ after)) start end ≡ middle
+pub between : (before middle after : List ℕ) (start end : ℕ) → start ≡ length before → end ≡ length before + length middle → slice_range (before ++ (middle ++ after)) start end ≡ middle
 between before middle after start end s e =
     let len : end - start ≡ length middle = omega arith in
     let from : drop start (before ++ (middle ++ after)) ≡ middle ++ after = ap (λ n. drop n (before ++ (middle ++ after))) s ∙ drop-append_seam before (middle ++ after) in
@@ -91,9 +91,16 @@ each_of text before (p ∷ ps) whole are =
     one text before (flat_map spelled ps) p whole _ are.0.form are.0.within
     (subst (λ n. All (IsTokenOf text) (tokens_from n ps)) (length-append before (spelled p)) others)
 
--- each token of a text that is read to its end
-pub each_token : (text : List ℕ) (at : ℕ) (tokens : List Token) → length text ≤ at → IsReadTo text at tokens → All (IsTokenOf text) tokens
-each_token text at tokens end read =
-    let none : drop at text ≡ [] = drop_all at text end in
-    let split : Splits text read.pieces [] = subst (Splits text read.pieces) none read.split in
-    subst (All (IsTokenOf text)) (sym read.told) (each_of text [] read.pieces (split.whole ∙ append-nil (flat_map spelled read.pieces)) split.each)
+-- what is read of a text at its end are its tokens
+pub all_read : (text : List ℕ) (at : ℕ) (tokens : List Token) → length text ≤ at → IsReadTo text at tokens → AreTokens text tokens
+all_read text at tokens end read = record {
+  pieces = read.pieces;
+  split = subst (Splits text read.pieces) (drop_all at text end) read.split;
+  told = read.told;
+}
+
+-- each of the tokens of a text
+pub each_token : (text : List ℕ) (tokens : List Token) → AreTokens text tokens → All (IsTokenOf text) tokens
+each_token text tokens are =
+    subst (All (IsTokenOf text)) (sym are.told)
+    (each_of text [] are.pieces (are.split.whole ∙ append-nil (flat_map spelled are.pieces)) are.split.each)

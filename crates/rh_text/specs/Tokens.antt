@@ -1,5 +1,7 @@
 -- The two answers about a text: its tokens, or its first fault.
-use Rattle.std.specs.Prelude.{ℕ, List}
+use Rattle.std.specs.Prelude.{◌≡◌, ◌⊎◌, ℕ, List, Result, Ok, Err}
+use Rattle.std.specs.Global.{Vec}
+use Rattle.rh_text.specs.declared.token.Token.{Token}
 use Rattle.rh_text.specs.declared.token.LexFault.{LexFault}
 use Rattle.rh_text.specs.declared.token.LexFault.TheVariants.{BadByte, NumberRange, LongName, NoMemory}
 use Rattle.rh_text.specs.Pieces.{IsFirstFault}
@@ -10,3 +12,13 @@ FaultsAs text (BadByte at) = IsFirstFault text (BadByte at)
 FaultsAs text (NumberRange at) = IsFirstFault text (NumberRange at)
 FaultsAs text (LongName at) = IsFirstFault text (LongName at)
 FaultsAs text NoMemory = Unit {0}
+
+-- these tokens, or want of memory
+abbrev pub IsTokens : List Token → Result (Vec Token) LexFault → Type 0
+IsTokens tokens (Ok found) = found.items ≡ tokens
+IsTokens tokens (Err fault) = fault ≡ NoMemory
+
+-- this fault, or want of memory
+abbrev pub IsFault : LexFault → Result (Vec Token) LexFault → Type 0
+IsFault fault (Ok found) = ⊥
+IsFault fault (Err other) = (other ≡ fault) ⊎ (other ≡ NoMemory)

@@ -1,8 +1,10 @@
 //! The tokens of a text.
 
-ghost use Rattle.std.specs.Prelude.{◌≡◌, ◌≤◌, length, IfOk, IfErr, MatchResult};
+ghost use Rattle.std.specs.Prelude.{◌≤◌, List, length, IfOk, IfErr};
+ghost use Rattle.rh_text.specs.declared.token.Token.{Token};
+ghost use Rattle.rh_text.specs.declared.token.LexFault.{LexFault};
 ghost use Rattle.rh_text.specs.Pieces.{AreTokens, IsFirstFault};
-ghost use Rattle.rh_text.specs.Tokens.{FaultsAs};
+ghost use Rattle.rh_text.specs.Tokens.{FaultsAs, IsTokens, IsFault};
 ghost use Rattle.rh_text.specs.Words.{IsTokenOf};
 ghost use Rattle.std.specs.List.{All};
 
@@ -19,6 +21,8 @@ pub fn tokens(alloc: Global, text: &[u8]) -> Result<Vec<Token>, LexFault>
     ensures tokens { IfOk result (λ tokens. AreTokens text.now tokens.items) }
     ensures each { IfOk result (λ tokens. All (IsTokenOf text.now) tokens.items) }
     ensures fault { IfErr result (FaultsAs text.now) }
+    ensures whole { (all : List Token) → AreTokens text.now all → IsTokens all result }
+    ensures first { (fault : LexFault) → IsFirstFault text.now fault → IsFault fault result }
 {
     let mut tokens = Vec::new(alloc);
     let mut at = 0;

@@ -1,2 +1,4 @@
 pub mod Refusing
 pub mod Results
+pub mod Completeness
+pub mod Others

@@ -13,6 +13,7 @@ use Rattle.rh_log.specs.Admission.{ruling_of}
 use Rattle.rh_oblig.specs.Ruling.{IsRuling}
 use Rattle.rh_oblig.proofs.Sound.{admitted_are_sound}
 use Rattle.rh_oblig.specs.Valid.{IsSound}
+use Rattle.rh_il_text.specs.Program.{IsText}
 use Rattle.rh_il_text.specs.Text.{program_text}
 use Rattle.rh_report.specs.Output.{rule_lines}
 use Rattle.rh_report.proofs.WithoutFacts.{nothing_is_greatest, opt_without_facts}
@@ -151,8 +152,9 @@ straight procs built numbers place proc read number stmt here = record {
 pub made_result : (file : Rules) (procs : List Proc) (admissions : List Admission) (text : List ℕ) → IsRuleFile file → is_built_file file ≡ true → IsProgram procs → is_built_program procs ≡ true → Each HasNumbers procs
     → AllZip (IsTold file.schemas) file.rules admissions
     → text ≡ rule_lines file.rules (map ruling_of admissions) ++ program_text (rewritten (λ fact. false) file.rules (map ruling_of admissions) procs)
+    → IsText text (rewritten (λ fact. false) file.rules (map ruling_of admissions) procs)
     → IsResult file procs text
-made_result file procs admissions text is_file built program built_program numbers told is =
+made_result file procs admissions text is_file built program built_program numbers told is printed =
     record {
       output = record {
         rulings = map ruling_of admissions;
@@ -161,20 +163,24 @@ made_result file procs admissions text is_file built program built_program numbe
         greatest = nothing_is_greatest file.rules (map ruling_of admissions) procs (all_transform file is_file built);
         text_is = is ∙ sym (opt_without_facts file (map ruling_of admissions) (λ fact. false) procs (no_schemas file is_file built));
       };
+      printed = printed;
       returns = λ arg value bound fits returns. returns_kept file.schemas file.rules (map ruling_of admissions) (λ fact. false) procs (sound_by file.schemas file.rules admissions told) (bare file is_file built) program
           (straight procs built_program numbers) arg value bound fits returns;
     }
 
+-- the rewritten program, of which the parts are told by other names
+pub after_is : (rules rules' : List Rule) (first rulings : List Ruling) (after procs : List Proc) → rules ≡ rules' → first ≡ rulings → after ≡ rewritten (λ fact. false) rules first procs
+    → after ≡ rewritten (λ fact. false) rules' rulings procs
+after_is rules rules' first rulings after procs same same_first is =
+    is ∙ ap (λ r. rewritten (λ fact. false) r first procs) same ∙ ap (λ l. rewritten (λ fact. false) rules' l procs) same_first
+
 -- the parts of a report, each told by another name
-pub report_is : (rules rules' : List Rule) (rulings first rulings' : List Ruling) (after procs : List Proc) (text : List ℕ) → rules ≡ rules' → rulings ≡ rulings' → first ≡ rulings'
-    → after ≡ rewritten (λ fact. false) rules first procs → text ≡ rule_lines rules rulings ++ program_text after
-    → text ≡ rule_lines rules' rulings' ++ program_text (rewritten (λ fact. false) rules' rulings' procs)
-report_is rules rules' rulings first rulings' after procs text same same_rulings same_first after_is is =
-    let new : after ≡ rewritten (λ fact. false) rules' rulings' procs =
-    after_is ∙ ap (λ r. rewritten (λ fact. false) r first procs) same ∙ ap (λ l. rewritten (λ fact. false) rules' l procs) same_first in
+pub report_is : (rules rules' : List Rule) (rulings rulings' : List Ruling) (after after' : List Proc) (text : List ℕ) → rules ≡ rules' → rulings ≡ rulings' → after ≡ after'
+    → text ≡ rule_lines rules rulings ++ program_text after → text ≡ rule_lines rules' rulings' ++ program_text after'
+report_is rules rules' rulings rulings' after after' text same same_rulings new is =
     is ∙ ap (λ r. rule_lines r rulings ++ program_text after) same ∙ ap (λ l. rule_lines rules' l ++ program_text after) same_rulings ∙ ap (λ a. rule_lines rules' rulings' ++ program_text a) new
 
--- what is known of an answer
-pub of_ok : {T E : Type 0} (P Q : T → Type 0) (result : Result T E) → ((x : T) → P x → Q x) → IfOk result P → IfOk result Q
-of_ok P Q (Ok x) leads known = leads x known
-of_ok P Q (Err e) leads known = known
+-- what is known of an answer, twice
+pub of_ok : {T E : Type 0} (P Q R : T → Type 0) (result : Result T E) → ((x : T) → P x → Q x → R x) → IfOk result P → IfOk result Q → IfOk result R
+of_ok P Q R (Ok x) leads first second = leads x first second
+of_ok P Q R (Err e) leads first second = first

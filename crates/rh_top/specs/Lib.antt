@@ -5,3 +5,4 @@ pub mod Input
 pub mod Result
 pub mod Ends
 pub mod Made
+pub mod Complete

@@ -4,6 +4,7 @@ use Rattle.rh_il.specs.declared.program.Proc.{Proc}
 use Rattle.rh_il.specs.declared.value.Value.{Value}
 use Rattle.rh_il.specs.Value.{IsNumber}
 use Rattle.rh_il_step.specs.Run.{Returns}
+use Rattle.rh_il_text.specs.Program.{IsText}
 use Rattle.rh_report.specs.Output.{IsOutput}
 use Rattle.rh_rule.specs.RuleFiles.{Rules}
 use Rattle.rh_transform.specs.Rewritten.{rewritten}
@@ -12,8 +13,9 @@ use Rattle.rh_transform.specs.Rewritten.{rewritten}
 abbrev pub KeepsReturns : List Proc → List Proc → Type 0
 KeepsReturns procs after = (arg : ℤ) (value : Value) (bound : ℕ) → IsNumber arg → Returns procs arg value bound → Returns after arg value bound
 
--- The output of `opt` on a rule file and a program: the rulings, the facts, and the rewritten program, which
--- keeps what the program returns.
+-- The output of `opt` on a rule file and a program: the rulings, the facts, and the rewritten program. It is a
+-- text of that program, which keeps what the program returns.
 pub record IsResult (file : Rules) (procs : List Proc) (text : List ℕ) : Type 0 where
   pub output : IsOutput file procs text
+  pub printed : IsText text (rewritten output.known file.rules output.rulings procs)
   pub returns : KeepsReturns procs (rewritten output.known file.rules output.rulings procs)

@@ -1,6 +1,8 @@
 //! Reading the two files.
 ghost use Rattle.std.specs.Prelude.{ℕ, ◌≡◌, ◌≤◌, true, List, length, IfOk, IfErr, IfSome};
-ghost use Rattle.rh_top.specs.Input.{IsUnread, RefusesProgram, RefusesProgramIn, RefusesRules, RefusesRulesIn, unbuilt};
+ghost use Rattle.rh_rule_text.specs.declared.source.SourceFile.{SourceFile};
+ghost use Rattle.rh_rule_text.specs.Reading.{Spells};
+ghost use Rattle.rh_top.specs.Input.{IsUnread, RefusesProgram, RefusesProgramIn, RefusesRules, RefusesRulesIn, of_program, of_rules, unbuilt};
 ghost use Rattle.rh_top.specs.Opt.{IsBuiltProgram, IsBuiltRules};
 ghost use Rattle.rh_top.specs.Stage.{is_built_file, is_built_program};
 
@@ -10,7 +12,7 @@ use rh_il::Program;
 use rh_il_text::{ReadFault, read_program};
 use rh_outside::{ReadError, Shelf, read_whole};
 use rh_rule::RuleFile;
-use rh_rule_text::{RulesFault, read_rules};
+use rh_rule_text::{RulesFault, has_header, read_rules};
 use std::alloc::Global;
 
 /// The most bytes of a file.
@@ -47,6 +49,36 @@ fn read_file<S: Shelf>(
     }
 }
 
+fn of_rules(fault: RulesFault) -> Status
+    ensures { result ≡ of_rules fault }
+{
+    match fault {
+        RulesFault::NoMemory => Status::NoMemory,
+        _ => Status::Unbuilt(1),
+    }
+}
+
+fn of_program(fault: ReadFault) -> Status
+    ensures { result ≡ of_program fault }
+{
+    match fault {
+        ReadFault::NoMemory => Status::NoMemory,
+        _ => Status::Unbuilt(2),
+    }
+}
+
+/// Whether the text of a rule file begins with the header.
+fn is_headed(alloc: Global, bytes: &[u8]) -> Result<bool, Status>
+    requires { length bytes.now ≤ 65536 }
+    ensures headed { IfOk result (λ headed. (source : SourceFile) → Spells bytes.now source → headed ≡ source.headed) }
+    ensures refused { IfErr result (RefusesRules bytes.now) }
+{
+    match has_header(alloc, bytes) {
+        Ok(headed) => Ok(headed),
+        Err(fault) => Err(of_rules(fault)),
+    }
+}
+
 /// The rule file of a text.
 fn built_rules(alloc: Global, bytes: &[u8]) -> Result<RuleFile, Status>
     requires { length bytes.now ≤ 65536 }
@@ -55,14 +87,16 @@ fn built_rules(alloc: Global, bytes: &[u8]) -> Result<RuleFile, Status>
 {
     match read_rules(alloc, bytes) {
         Ok(file) => {
+            if is_headed(alloc, bytes)? {
+                return Err(Status::Unbuilt(1));
+            }
             if is_built_file(&file) {
                 Ok(file)
             } else {
                 Err(Status::Unbuilt(1))
             }
         }
-        Err(RulesFault::NoMemory) => Err(Status::NoMemory),
-        Err(_) => Err(Status::Unbuilt(1)),
+        Err(fault) => Err(of_rules(fault)),
     }
 }
 
@@ -80,8 +114,7 @@ fn built_program(alloc: Global, bytes: &[u8]) -> Result<Program, Status>
                 Err(Status::Unbuilt(2))
             }
         }
-        Err(ReadFault::NoMemory) => Err(Status::NoMemory),
-        Err(_) => Err(Status::Unbuilt(2)),
+        Err(fault) => Err(of_program(fault)),
     }
 }
 

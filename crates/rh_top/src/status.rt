@@ -3,6 +3,7 @@ ghost use Rattle.std.specs.Prelude.{◌≡◌, ◌++◌, IfOk, OnOk, codes};
 ghost use Rattle.std.specs.Fmt.{decimal};
 ghost use Rattle.rh_top.specs.Status.{large_text, line_of, number_of, part_name, reason_of};
 
+use rh_il_text::push;
 use std::alloc::{AllocError, Global};
 
 /// A file of a command.
@@ -59,12 +60,6 @@ fn part_name(part: Part) -> &'static [u8]
         Part::Rules => b"rules",
         Part::Program => b"program",
     }
-}
-
-fn push(out: &mut Vec<u8>, bytes: &[u8]) -> Result<(), AllocError>
-    ensures { OnOk result (out.new.items ≡ out.old.items ++ bytes.now) }
-{
-    out.extend_from_slice(bytes)
 }
 
 /// A text, and a number behind it.

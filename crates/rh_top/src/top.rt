@@ -2,6 +2,7 @@
 ghost use Rattle.std.specs.Prelude.{ℕ, ◌≡◌, List, IfNone, IfSome};
 ghost use Rattle.rh_args.specs.Forms.{texts};
 ghost use Rattle.rh_top.specs.declared.status.Status.TheVariants.{Unbuilt};
+ghost use Rattle.rh_top.specs.Complete.{IsDoneOrNothing, IsGood};
 ghost use Rattle.rh_top.specs.Ends.{Ends};
 ghost use Rattle.rh_top.specs.Opt.{IsOpt};
 
@@ -38,6 +39,9 @@ pub fn rhodium<R: Threads + Sync, S: Shelf, K: Sink, G: Gate + Sync>(
 ) -> Status
     ensures opt { (rules program : List ℕ) → IsOpt (texts words.now) rules program
         → Ends (S.holds shelf.old) (S.faults shelf.old) (S.faults shelf.new) (K.written out.old) (K.written out.new) (K.faults out.old) (K.faults out.new) rules program result }
+    ensures complete { (rules program : List ℕ) → IsOpt (texts words.now) rules program
+        → IsGood (S.holds shelf.old) (S.faults shelf.old) (S.faults shelf.new) (K.faults out.old) (K.faults out.new) rules program
+        → IsDoneOrNothing (K.written out.old) (K.written out.new) result }
     ensures unbuilt { ((rules program : List ℕ) → IsOpt (texts words.now) rules program → ⊥) → result ≡ Unbuilt 0 }
     ensures unwritten { ((rules program : List ℕ) → IsOpt (texts words.now) rules program → ⊥) → K.written out.new ≡ K.written out.old }
 {

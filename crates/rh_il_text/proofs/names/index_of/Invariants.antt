@@ -1,9 +1,6 @@
-use Rattle.std.proofs.Common.{◌≤◌, length}
-use Rattle.rh_il_text.specs.Index.{IsIndexFrom}
+use Rattle.std.proofs.Common.{take}
+use Rattle.rh_il_text.specs.Index.{IsIndex}
 use Rattle.rh_il_text.proofs.names.index_of.Given as goal
 
 abbrev pub invariant-loop-place : goal.invariant-loop-place
-invariant-loop-place l = record { index : IsIndexFrom l.places l.place l.names; within : l.place ≤ length l.names }
-
-abbrev pub decreases-loop-place : goal.decreases-loop-place
-decreases-loop-place l = l.place
+invariant-loop-place l = record { index : IsIndex l.places (take l.place l.names) }

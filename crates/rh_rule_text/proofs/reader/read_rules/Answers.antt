@@ -1,11 +1,8 @@
-use Rattle.std.proofs.Common.{◌≡◌, List, true, sym, subst, ◌∙◌}
-use Rattle.std.specs.List.{list_all}
-use Rattle.rh_rule_text.specs.declared.word.Word.{Word}
-use Rattle.rh_rule_text.specs.Proper.{is_proper_word}
-use Rattle.rh_rule_text.proofs.ProperNames.{words_proper}
+use Rattle.rh_rule_text.proofs.Answered.{answers, refuses}
 use Rattle.rh_rule_text.proofs.reader.read_rules.Goals as goal
 
-pub resolved-requires : goal.resolved-requires
-resolved-requires c =
-    let spelled = sym c.in_ok-words.ensures ∙ (sym c.as_slice-5.ensures.value ∙ c.in_ok-source.ensures) in
-    subst (λ (words : List Word). list_all is_proper_word words ≡ true) spelled (words_proper c.args.src.now c.as_slice.result.now)
+pub returns-clause-whole : goal.returns-clause-whole
+returns-clause-whole c = answers c.args.src.now c.rules_in.result c.rules_in.ensures.rules c.rules_in.ensures.fault
+
+pub returns-clause-refused : goal.returns-clause-refused
+returns-clause-refused c = refuses c.args.src.now c.rules_in.result c.rules_in.ensures.rules c.rules_in.ensures.fault
