@@ -3,6 +3,7 @@ use Rattle.std.proofs.Common.{◌≡◌, ℕ, zero, suc, ◌<◌, ◌≤◌, ◌
 use Rattle.std.specs.Prelude.{slice_get}
 use Rattle.std.specs.List.{AllByRecursion, AllZip}
 use Rattle.std.proofs.lemmas.List.{map-append, take-map, take_all, take_more}
+use Rattle.rh_list.proofs.Appended.{pushed}
 use Rattle.rh_log.specs.declared.log.Log.{Log}
 use Rattle.rh_term.specs.declared.obligation.Obligation.{Obligation}
 use Rattle.rh_oblig.specs.Obligation.{parts_of}
@@ -23,10 +24,6 @@ zip_more R [] (first ∷ logs) part log all this = absurd all
 zip_more R (first ∷ parts) [] part log all this = absurd all
 zip_more R (first ∷ parts) (one ∷ logs) part log all this = (all.0, zip_more R parts logs part log all.1 this)
 
-all_more : (P : Part → Type 0) (parts : List Part) (part : Part) → AllByRecursion P parts → P part → AllByRecursion P (parts ++ part ∷ [])
-all_more P [] part all this = (this, tt)
-all_more P (first ∷ parts) part all this = (all.0, all_more P parts part all.1 this)
-
 -- one more obligation
 parts_more : (obligations : List Obligation) (i : ℕ) (d : Obligation) → i < length obligations
     → take (i + 1) (parts_of obligations) ≡ take i (parts_of obligations) ++ part_of (get_or obligations i d) ∷ []
@@ -45,7 +42,7 @@ closed_more obligations i d logs log within here closed finds shut =
           (zip_more (λ part log. Finds part (Closed log)) (take i (parts_of obligations)) logs (part_of (get_or obligations i d)) log closed.kept
           (subst (λ (part : Part). Finds part (Closed log)) part finds));
       shut = subst (AllByRecursion IsShut) (sym (parts_more obligations i d within))
-          (all_more IsShut (take i (parts_of obligations)) (part_of (get_or obligations i d)) closed.shut (subst IsShut part shut));
+          (pushed IsShut (take i (parts_of obligations)) (part_of (get_or obligations i d)) closed.shut (subst IsShut part shut));
     }
 
 -- the obligation at a place

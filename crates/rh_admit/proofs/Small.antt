@@ -1,5 +1,5 @@
 -- A rule file has few rules, each with few metavariables.
-use Rattle.std.proofs.Common.{ℕ, ◌<◌, ◌^◌, get_or, length, arith}
+use Rattle.std.proofs.Common.{◌<◌, ◌^◌, get_or, length, arith}
 use Rattle.std.specs.List.{All}
 use Rattle.rh_rule.specs.declared.rule.Rule.{Rule}
 use Rattle.rh_rule.specs.RuleFiles.{IsRuleFile, Rules}

@@ -4,10 +4,10 @@ use Rattle.std.specs.Option.{option_and_then}
 use Rattle.std.specs.Prelude.{if◌then◌else◌}
 use Rattle.std.proofs.lemmas.Bool.{cases_Bool, cond-true, cond-false}
 use Rattle.rh_il.specs.declared.value.Op.{Op as Operator}
+use Rattle.rh_il.specs.Op.{op_eq}
+use Rattle.rh_il.proofs.Operators.{op_eq-true}
 use Rattle.rh_term.specs.declared.term.Term.{Term}
 use Rattle.rh_term.specs.declared.term.Term.TheVariants.{Num, Cst, Addr, Any, Fresh, Answer, Before, After, Start, Sel, Upd, Op, Kind, IsNum, IsPtr, Una, Yes}
-use Rattle.rh_term.specs.Place.{same_operator}
-use Rattle.rh_term.proofs.Placed.{same_operator-true}
 use Rattle.rh_axioms.specs.Parts.{as_num, as_sel, as_upd, as_op, as_kind, as_una, operands}
 
 got : {A : Type 0} (a b : A) → Some a ≡ Some b → a ≡ b
@@ -128,13 +128,13 @@ una_of (Una a b) p e = ap (λ (p : ℕ × ℕ). Una p.0 p.1) (got (a, b) p e)
 una_of Yes p e = cc
 
 from_operation : (op : Operator) (t : Term) (p : ℕ × ℕ) (found : Option (Operator × ℕ × ℕ)) → as_op t ≡ found
-    → option_and_then (λ (parts : Operator × ℕ × ℕ). if same_operator parts.0 op then Some (parts.1, parts.2) else None) found ≡ Some p → t ≡ Op op p.0 p.1
+    → option_and_then (λ (parts : Operator × ℕ × ℕ). if op_eq parts.0 op then Some (parts.1, parts.2) else None) found ≡ Some p → t ≡ Op op p.0 p.1
 from_operation op t p None h e = cc
 from_operation op t p (Some q) h e =
-    elim (cases_Bool (same_operator q.0 op)) [
-      | inl y ↦ op_of t q h ∙ ap (λ o. Op o q.1 q.2) (same_operator-true q.0 op y)
-          ∙ ap (λ (p : ℕ × ℕ). Op op p.0 p.1) (got (q.1, q.2) p (sym (cond-true (same_operator q.0 op) (Some (q.1, q.2)) None y) ∙ e))
-      | inr n ↦ let f : None ≡ Some p = sym (cond-false (same_operator q.0 op) (Some (q.1, q.2)) None n) ∙ e in cc
+    elim (cases_Bool (op_eq q.0 op)) [
+      | inl y ↦ op_of t q h ∙ ap (λ o. Op o q.1 q.2) (op_eq-true q.0 op y)
+          ∙ ap (λ (p : ℕ × ℕ). Op op p.0 p.1) (got (q.1, q.2) p (sym (cond-true (op_eq q.0 op) (Some (q.1, q.2)) None y) ∙ e))
+      | inr n ↦ let f : None ≡ Some p = sym (cond-false (op_eq q.0 op) (Some (q.1, q.2)) None n) ∙ e in cc
     ]
 
 pub operands_of : (op : Operator) (t : Term) (p : ℕ × ℕ) → operands op t ≡ Some p → t ≡ Op op p.0 p.1

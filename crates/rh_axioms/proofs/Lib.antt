@@ -6,4 +6,5 @@ pub mod Standing
 pub mod Within
 pub mod Sorts
 pub mod Arithmetic
+pub mod Literals
 pub mod Truths

@@ -1,11 +1,12 @@
 -- What the terms of a list stand for: values, stores, and numbers of 64 bits.
-use Rattle.std.proofs.Common.{◌≡◌, ℕ, zero, suc, Bool, true, false, IsTrue, List, [], ◌∷◌, ◌++◌, Some, length, take, slice_get, refl, ap, sym, subst, ◌∙◌, inl, inr, lit<}
+use Rattle.std.proofs.Common.{◌≡◌, ℕ, zero, suc, Bool, true, false, IsTrue, List, [], ◌∷◌, Some, length, take, slice_get, refl, ap, sym, subst, ◌∙◌, inl, inr, lit<}
 use Rattle.std.specs.List.{All, AllByRecursion, fold}
 use Rattle.std.specs.Prelude.{int_lt}
 use Rattle.std.proofs.lemmas.Bool.{cases_lt, cases_eq}
 use Rattle.std.proofs.lemmas.List.{get_or_past}
 use Rattle.std.proofs.lemmas.Int.{SFits-int_wrap}
 use mir.Syntax.{w64}
+use Rattle.rh_list.proofs.Appended.{pushed}
 use Rattle.rh_il.specs.Op.{total, truth}
 use Rattle.rh_il.specs.Value.{IsNumber, IsValue, value_eq}
 use Rattle.rh_il.specs.declared.value.Op.{Op as Operator}
@@ -162,16 +163,12 @@ module _ (model : Model) (is_model : IsModel model) where
   denotation_in_range known (Una a b) h n = tt
   denotation_in_range known Yes h n = tt
 
-  more_in_range : (known : List Denotation) (d : Denotation) → AllByRecursion InRange known → InRange d → AllByRecursion InRange (known ++ d ∷ [])
-  more_in_range [] d h k = (k, tt)
-  more_in_range (x ∷ known) d h k = (h.0, more_in_range known d h.1 k)
-
   all_in_range : (terms : List Term) (known : List Denotation) → ((i : ℕ) (term : Term) → slice_get terms i ≡ Some term → HasNumber term)
       → AllByRecursion InRange known → AllByRecursion InRange (fold (grow model) known terms)
   all_in_range [] known numbers h = h
   all_in_range (t ∷ ts) known numbers h =
       all_in_range ts (grow model known t) (λ i term e. numbers (suc i) term e)
-      (more_in_range known (denotation_in model known t) h (denotation_in_range known t h (numbers zero t refl)))
+      (pushed InRange known (denotation_in model known t) h (denotation_in_range known t h (numbers zero t refl)))
 
   -- the value of a term is one of 64 bits
   pub value_at_in_range : (terms : List Term) → IsTermList terms → (i : ℕ) → IsValue (value_at (denotations model terms) i)

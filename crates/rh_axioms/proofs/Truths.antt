@@ -1,6 +1,6 @@
 -- The instances of a schema are true in every model.
-use Rattle.std.proofs.Common.{◌≡◌, ◌≢◌, ℕ, Bool, true, false, ◌||◌, List, Option, Some, None, take, slice_get, refl, ap, sym, subst, arith, ◌∙◌, ℤ, pos}
-use Rattle.std.specs.Prelude.{nat_lt, ◌==◌, not, if◌then◌else◌}
+use Rattle.std.proofs.Common.{◌≡◌, ◌≢◌, ℕ, Bool, true, false, List, Option, Some, None, take, slice_get, refl, ap, sym, subst, arith, ◌∙◌, ℤ, pos}
+use Rattle.std.specs.Prelude.{nat_lt, ◌==◌, if◌then◌else◌}
 use Rattle.std.specs.Option.{option_and_then}
 use Rattle.std.proofs.lemmas.Bool.{both_ways, eqb-true, false_from_ne_true, ltb-true}
 use Rattle.rh_il.specs.Op.{total}
@@ -13,14 +13,14 @@ use Rattle.rh_term.specs.declared.clause.Clause.{Clause}
 use Rattle.rh_term.specs.declared.term.Term.{Term}
 use Rattle.rh_term.specs.declared.term.Term.TheVariants.{Num, Cst, Addr, Sel, Upd, Op, Kind, IsNum, IsPtr, Una, Yes}
 use Rattle.rh_term.specs.Clause.{Sameness, is_true_clause}
-use Rattle.rh_term.specs.Model.{Model, IsModel, Denotation, AValue, AStore, AKind, AnAnswer, alike, is_number, value_of, store_of, value_at, store_at, denotation_at, denotation_in, denotations, same_in}
+use Rattle.rh_term.specs.Model.{Model, IsModel, Denotation, AValue, AKind, is_number, value_of, store_of, value_at, store_at, denotation_at, denotation_in, denotations, same_in}
 use Rattle.rh_term.specs.Place.{place_in}
 use Rattle.rh_term.specs.Store.{read, select, update, is_unheld}
 use Rattle.rh_term.specs.Term.{IsTermList, HasParts}
-use Rattle.rh_term.proofs.Alike.{value_of-alike, alike-refl}
+use Rattle.rh_term.proofs.Alike.{value_of-alike}
 use Rattle.rh_term.proofs.Known.{known_at}
 use Rattle.rh_term.proofs.Placed.{place_stands}
-use Rattle.rh_term.proofs.Stores.{SameReads, value_eq-true, value_eq-same, reads-same_store}
+use Rattle.rh_term.proofs.Stores.{value_eq-true}
 use Rattle.rh_axioms.specs.declared.table.Axiom.{Axiom}
 use Rattle.rh_axioms.specs.declared.table.Axiom.TheVariants.{A1, A2, A3, A4, A5, A6, A7, A8, A9, A10, A11, A12, A13, A14, A15, A16, A17, A18, A19, A20, A21, A22, A23, A24}
 use Rattle.rh_axioms.specs.declared.instance.Instance.{Instance}
@@ -31,74 +31,10 @@ use Rattle.rh_axioms.specs.Rows.{read_back, read_before, write_nothing_new, numb
 use Rattle.rh_axioms.specs.Laws.{HoldsInModels, TablesHold}
 use Rattle.rh_axioms.proofs.Arithmetic.{total_is_number, computes, add_nothing, nothing_plus, take_nothing, by_one, once, by_zero, zero_by, from_itself, equals_itself, equals_no_other, no_less, commuted, select_written, select_other, update_same, unheld_select, still_unheld}
 use Rattle.rh_axioms.proofs.Inverse.{num_of, sel_of, upd_of, op_of, kind_of as is_kind, una_of, operands_of}
+use Rattle.rh_axioms.proofs.Literals.{one_differs, one_equals, then_equal, else_equal, never_both, both_then_equal, then_else_equal, alike_values, alike_stores, alike_kinds, alike_answers, kinds_alike, answers_alike}
 use Rattle.rh_axioms.proofs.Passing.{AllPass, Passes, one_passes, through, of_some_pass, each_pass, flat_map_pass}
 use Rattle.rh_axioms.proofs.Sorts.{value_part, store_part, value_at_in_range}
 use Rattle.rh_axioms.proofs.Standing.{parts_at, written}
-
--- ---- clauses of literals
-
-one_differs : (x : Bool) → x ≡ false → (not x || false) ≡ true
-one_differs true h = cc
-one_differs false h = refl
-
-one_equals : (z : Bool) → z ≡ true → (z || false) ≡ true
-one_equals true h = refl
-one_equals false h = cc
-
-then_equal : (x z : Bool) → (x ≡ true → z ≡ true) → (not x || (z || false)) ≡ true
-then_equal true z h = one_equals z (h refl)
-then_equal false z h = refl
-
-else_equal : (x z : Bool) → (x ≡ false → z ≡ true) → (x || (z || false)) ≡ true
-else_equal true z h = refl
-else_equal false z h = one_equals z (h refl)
-
-never_both : (x y : Bool) → (x ≡ true → y ≡ true → ⊥) → (not x || (not y || false)) ≡ true
-never_both true true h = absurd (h refl refl)
-never_both true false h = refl
-never_both false y h = refl
-
-both_then_equal : (x y z : Bool) → (x ≡ true → y ≡ true → z ≡ true) → (not x || (not y || (z || false))) ≡ true
-both_then_equal true true z h = one_equals z (h refl refl)
-both_then_equal true false z h = refl
-both_then_equal false y z h = refl
-
-then_else_equal : (x y z : Bool) → (x ≡ true → y ≡ false → z ≡ true) → (not x || (y || (z || false))) ≡ true
-then_else_equal true true z h = refl
-then_else_equal true false z h = one_equals z (h refl refl)
-then_else_equal false y z h = refl
-
--- ---- what is alike
-
-alike_values : (d e : Denotation) (v w : Value) → d ≡ AValue v → e ≡ AValue w → v ≡ w → alike d e ≡ true
-alike_values d e v w f g h = rw (f, g) (value_eq-same v w h)
-
-alike_stores : (d e : Denotation) (s t : List Value) → d ≡ AStore s → e ≡ AStore t → SameReads s t → alike d e ≡ true
-alike_stores d e s t f g h = rw (f, g) (reads-same_store s t h)
-
-alike_kinds : (d e : Denotation) (a b : Bool) → d ≡ AKind a → e ≡ AKind b → a ≡ b → alike d e ≡ true
-alike_kinds d e a b f g h = let k : d ≡ e = f ∙ ap AKind h ∙ sym g in subst (λ x. alike d x ≡ true) k (alike-refl d)
-
-alike_answers : (d e : Denotation) (a b : Bool) → d ≡ AnAnswer a → e ≡ AnAnswer b → a ≡ b → alike d e ≡ true
-alike_answers d e a b f g h = let k : d ≡ e = f ∙ ap AnAnswer h ∙ sym g in subst (λ x. alike d x ≡ true) k (alike-refl d)
-
-same_kinds : (a b : Bool) → alike (AKind a) (AKind b) ≡ true → a ≡ b
-same_kinds true true h = refl
-same_kinds true false h = cc
-same_kinds false true h = cc
-same_kinds false false h = refl
-
-same_answers : (a b : Bool) → alike (AnAnswer a) (AnAnswer b) ≡ true → a ≡ b
-same_answers true true h = refl
-same_answers true false h = cc
-same_answers false true h = cc
-same_answers false false h = refl
-
-kinds_alike : (d e : Denotation) (a b : Bool) → d ≡ AKind a → e ≡ AKind b → alike d e ≡ true → a ≡ b
-kinds_alike d e a b f g h = same_kinds a b (sym (ap (λ x. alike x e) f ∙ ap (alike (AKind a)) g) ∙ h)
-
-answers_alike : (d e : Denotation) (a b : Bool) → d ≡ AnAnswer a → e ≡ AnAnswer b → alike d e ≡ true → a ≡ b
-answers_alike d e a b f g h = same_answers a b (sym (ap (λ x. alike x e) f ∙ ap (alike (AnAnswer a)) g) ∙ h)
 
 module _ (model : Model) (is_model : IsModel model) (terms : List Term) (list : IsTermList terms) where
   abbrev K : List Denotation

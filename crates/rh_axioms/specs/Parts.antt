@@ -2,9 +2,9 @@
 use Rattle.std.specs.Prelude.{ℕ, ℤ, Option, Some, None, if◌then◌else◌}
 use Rattle.std.specs.Option.{option_and_then}
 use Rattle.rh_il.specs.declared.value.Op.{Op as Operator}
+use Rattle.rh_il.specs.Op.{op_eq}
 use Rattle.rh_term.specs.declared.term.Term.{Term}
 use Rattle.rh_term.specs.declared.term.Term.TheVariants.{Num, Sel, Upd, Op, Kind, Una}
-use Rattle.rh_term.specs.Place.{same_operator}
 
 abbrev pub as_num : Term → Option ℤ
 as_num (Num number) = Some number
@@ -32,4 +32,4 @@ as_una _ = None
 
 -- the operands, where the term is of this operator
 abbrev pub operands : Operator → Term → Option (ℕ × ℕ)
-operands op term = option_and_then (λ parts. if same_operator parts.0 op then Some (parts.1, parts.2) else None) (as_op term)
+operands op term = option_and_then (λ parts. if op_eq parts.0 op then Some (parts.1, parts.2) else None) (as_op term)

@@ -9,8 +9,6 @@ mod parts;
 mod rows;
 mod standard_table;
 mod table;
-#[cfg(test)]
-mod tests;
 
 pub use laws::schemas_hold;
 pub use listing::instances;

@@ -3,11 +3,13 @@ use Rattle.std.proofs.Common.{ℕ, zero, suc, ℤ, pos, ◌≡◌, ◌<◌, true
 use Rattle.std.specs.List.{AllZip, AllByRecursion, flat_map, range_with_len}
 use Rattle.std.specs.Ordering.{int_eq}
 use Rattle.std.specs.Prelude.{int_lt, Some, if◌then◌else◌}
+use Rattle.rh_list.specs.Each.{Each}
 use Rattle.rh_il.specs.declared.program.Proc.{Proc}
 use Rattle.rh_il.specs.declared.program.Stmt.{Stmt}
 use Rattle.std.proofs.lemmas.Bool.{lt-ltb}
 use Rattle.rh_il.specs.Checks.{is_base}
 use Rattle.rh_il.specs.Value.{IsNumber}
+use Rattle.rh_il.specs.Numbers.{HasNumbers, operand_numbers}
 use Rattle.rh_rule.specs.declared.rule.Arg.{Arg}
 use Rattle.rh_rule.specs.declared.rule.Arg.TheVariants.{Var, Const}
 use Rattle.rh_rule.specs.declared.rule.RuleBase.{RuleBase}
@@ -17,8 +19,7 @@ use Rattle.rh_rule.specs.declared.schema.Kind.TheVariants.{Var as AVar, Const as
 use Rattle.rh_rule.specs.declared.schema.Param.{Param}
 use Rattle.rh_rule.specs.Params.{kind_of}
 use Rattle.rh_ground.specs.Binding.{Binding, FitsKind, FitsBinding, args_of, as_base, as_variable, base_under, bindings, bound}
-use Rattle.rh_ground.specs.Constants.{HasNumbers, operand_numbers, with_number, rising, constants_of}
-use Rattle.rh_ground.specs.Each.{Each}
+use Rattle.rh_ground.specs.Constants.{with_number, rising, constants_of}
 use Rattle.rh_ground.proofs.Members.{IsItem, item_of_map, item_of_flat_map, item_of_range}
 
 zero_fits : IsNumber (pos 0)

@@ -6,9 +6,7 @@ use Rattle.rh_il.specs.declared.program.Base.{Base}
 use Rattle.rh_il.specs.declared.program.Base.TheVariants.{Var as AVariable, Num as ALiteral}
 use Rattle.rh_il.specs.declared.program.Stmt.{Stmt}
 use Rattle.rh_il.specs.declared.program.Stmt.TheVariants.{Skip as ASkip, Copy as ACopy, Address as AnAddress, Load as ALoad, Compute as AComputation, Write as AWrite, Call as ACall, If as AnIf, Return as AReturn}
-use Rattle.rh_il.specs.declared.value.Op.{Op}
-use Rattle.rh_il.specs.declared.value.Op.TheVariants.{Add, Sub, Mul, Less, Equal}
-use Rattle.rh_il.specs.Op.{op_eq}
+use Rattle.rh_il.proofs.Operators.{op_eq-true}
 use Rattle.rh_rule.specs.declared.rule.Arg.{Arg}
 use Rattle.rh_rule.specs.declared.rule.Arg.TheVariants.{Var, Const}
 use Rattle.rh_rule.specs.declared.rule.Form.{Form}
@@ -24,14 +22,6 @@ base_eq-true (AVariable a) (AVariable b) e = ap AVariable (eqb-true a b e)
 base_eq-true (ALiteral a) (ALiteral b) e = ap ALiteral ((Decides-int_eq a b).0 e)
 base_eq-true (AVariable a) (ALiteral b) e = cc
 base_eq-true (ALiteral a) (AVariable b) e = cc
-
-pub op_eq-true : (a b : Op) → op_eq a b ≡ true → a ≡ b
-op_eq-true Add Add e = refl
-op_eq-true Sub Sub e = refl
-op_eq-true Mul Mul e = refl
-op_eq-true Less Less e = refl
-op_eq-true Equal Equal e = refl
-op_eq-true _ _ e = cc
 
 variable_is : (arg : Arg) (variable : ℕ) → arg_eq arg (Var variable) ≡ true → variable ≡ as_variable arg
 variable_is (Var number) variable e = sym (eqb-true number variable e)

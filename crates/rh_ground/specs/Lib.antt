@@ -1,4 +1,3 @@
-pub mod Each
 pub mod Constants
 pub mod Binding
 pub mod Match

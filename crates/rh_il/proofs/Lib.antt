@@ -1,3 +1,5 @@
 mod Names
 pub mod Firsts
 pub mod Passed
+pub mod ProcChecks
+pub mod Operators

@@ -1,6 +1,7 @@
 -- What procedures that pass every check are known to have.
 use Rattle.std.proofs.Common.{◌≡◌, ℕ, zero, suc, ◌+◌, ◌<◌, ◌≤◌, Bool, true, false, cond, not, ◌||◌, List, [], ◌∷◌, length, Option, Some, None, refl, sym, ap, ◌∙◌, subst, arith, ⊎_elim, codes}
 use Rattle.std.proofs.lemmas.Bool.{leb-true, lt-ltb, cases_lt, and_parts, false≢true}
+use Rattle.std.proofs.lemmas.Option.{slice_get_within}
 use Rattle.std.specs.Borrow.{Bor}
 use Rattle.std.specs.Prelude.{slice_get, option_copied, IfSome}
 use Rattle.std.specs.List.{list_any, position, prefix_len}
@@ -12,21 +13,16 @@ use Rattle.rh_il.specs.Checks.{first_some, unless, is_called, proc_fault, progra
 some_same : (a b : ℕ) → ◌≡◌ {A = Option ℕ} (Some a) (Some b) → a ≡ b
 some_same a b h = cc
 
-read_below : {X : Type 0} (xs : List X) (i : ℕ) (x : X) → slice_get xs i ≡ Some x → i < length xs
-read_below [] i x e = absurd cc
-read_below (y ∷ ys) zero x e = omega arith
-read_below (y ∷ ys) (suc i) x e = let rest = read_below ys i x e in omega arith
-
-none_parts : {X : Type 0} (a b : Option X) → option_or a b ≡ None → (a ≡ None) × (b ≡ None)
+pub none_parts : {X : Type 0} (a b : Option X) → option_or a b ≡ None → (a ≡ None) × (b ≡ None)
 none_parts None b h = (refl, h)
 none_parts (Some x) b h = absurd cc
 
-passes : (t : Bool) (kind : ProgWrong) (proc item : ℕ) → unless t kind proc item ≡ None → t ≡ true
+pub passes : (t : Bool) (kind : ProgWrong) (proc item : ℕ) → unless t kind proc item ≡ None → t ≡ true
 passes true kind proc item h = refl
 passes false kind proc item h = absurd cc
 
 -- what isn't there among so many is at none of their places
-none_at : {X : Type 0} (n : ℕ) (found : ℕ → Option X) (k : ℕ) → first_some n found ≡ None → k < n → found k ≡ None
+pub none_at : {X : Type 0} (n : ℕ) (found : ℕ → Option X) (k : ℕ) → first_some n found ≡ None → k < n → found k ≡ None
 none_at zero found k h lt = absurd (omega arith)
 none_at (suc n) found k h lt =
     let parts = none_parts (first_some n found) (found n) h in
@@ -73,7 +69,7 @@ placed_some p xs h none = let some = placed p xs h in cc
 -- one procedure of a program passes its checks
 pub proc_passed : (procs : List Proc) (number : ℕ) (proc : Proc) → Passed procs → slice_get procs number ≡ Some proc → proc_fault (length procs) number proc ≡ None
 proc_passed procs number proc passed read =
-    let there = none_at _ _ number passed.each (read_below procs number proc read) in
+    let there = none_at _ _ number passed.each (slice_get_within procs number proc read) in
     ap (option_and_then (proc_fault (length procs) number)) (sym read) ∙ there
 
 pub proc_parts : (procs number : ℕ) (proc : Proc) → proc_fault procs number proc ≡ None → ProcPassed proc

@@ -6,3 +6,4 @@ pub mod Unspelled
 pub mod Flow
 pub mod Checks
 pub mod Entering
+pub mod Numbers

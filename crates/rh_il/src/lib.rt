@@ -5,6 +5,7 @@ mod check;
 mod fault;
 mod flow;
 mod name;
+mod numbers;
 mod procedures;
 mod program;
 mod proper;
@@ -12,6 +13,7 @@ mod value;
 
 pub use fault::{Limited, ProgFault, ProgWrong};
 pub use name::Name;
+pub use numbers::numbers_fit;
 pub use procedures::Program;
 pub use program::{Base, Edge, Node, Proc, Slot, Stmt};
 pub use proper::{are_proper, is_keyword, is_proper};

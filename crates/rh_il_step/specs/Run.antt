@@ -1,24 +1,23 @@
 -- Runs of a program, and what it returns.
-use Rattle.std.specs.Prelude.{ℕ, zero, suc, ◌<◌, ◌≡◌, ℤ, List, [], ◌∷◌, Option, Some, None, codes, unwrap_or}
-use Rattle.std.specs.List.{position}
+use Rattle.std.specs.Prelude.{ℕ, zero, suc, ◌<◌, ◌≡◌, ℤ, List, [], ◌∷◌, Option, Some, None, unwrap_or}
 use Rattle.std.specs.Option.{option_and_then}
-use Rattle.std.specs.Str.{bytes_eq}
 use Rattle.rh_il.specs.declared.program.Proc.{Proc}
 use Rattle.rh_il.specs.declared.program.Edge.{Edge}
 use Rattle.rh_il.specs.declared.value.Value.{Value}
 use Rattle.rh_il.specs.declared.value.Value.TheVariants.{Num}
+use Rattle.rh_il.specs.Checks.{main_of}
 use Rattle.rh_il.specs.Value.{IsNumber}
 use Rattle.rh_il_step.specs.declared.frame.Frame.{Frame}
 use Rattle.rh_il_step.specs.State.{State}
 use Rattle.rh_il_step.specs.Step.{Outcome, Went, Returned, Stuck, step, entered, fresh_cells}
 
--- the number of the procedure `main`
-abbrev pub main_of : List Proc → ℕ
-main_of procs = unwrap_or (position (λ proc. bytes_eq proc.name (codes "main")) procs) 0
+-- where the run begins
+abbrev pub main_number : List Proc → ℕ
+main_number procs = unwrap_or (main_of procs) 0
 
 -- main at its entry, with a number as its argument
 abbrev pub start : List Proc → ℤ → State
-start procs arg = record { frames = entered (main_of procs) 0 ∷ []; cells = fresh_cells procs (main_of procs) (Num arg) }
+start procs arg = record { frames = entered (main_number procs) 0 ∷ []; cells = fresh_cells procs (main_number procs) (Num arg) }
 
 -- the next state, where the outcome is one
 abbrev pub next : Outcome → Option State

@@ -1,16 +1,17 @@
 -- A printed program is a text of that program.
 use Rattle.std.proofs.Common.{◌≡◌, ℕ, true, List, [], None, sym, ◌∙◌, subst, append-nil}
 use Rattle.std.specs.List.{AllByRecursion, list_all, flat_map}
+use Rattle.rh_list.specs.Each.{Each}
 use Rattle.rh_text.specs.Pieces.{spelled, tokens_from}
 use Rattle.rh_text.proofs.Printing.{printed_tokens}
 use Rattle.rh_il.specs.declared.program.Proc.{Proc}
 use Rattle.rh_il.specs.Checks.{has_proper_names, program_fault}
+use Rattle.rh_il.specs.Numbers.{HasNumbers}
 use Rattle.rh_il_text.specs.Grammar.{productions, program}
 use Rattle.rh_il_text.specs.Words.{words_of, classes_of}
 use Rattle.rh_il_text.specs.Source.{file_words}
 use Rattle.rh_il_text.specs.Text.{program_text}
 use Rattle.rh_il_text.specs.Program.{Spells, IsText}
-use Rattle.rh_il_text.specs.Numbers.{AllNumbers}
 use Rattle.rh_grammar.specs.Derivation.{Derivable}
 use Rattle.rh_il_text.proofs.Fits.{SourceFits}
 use Rattle.rh_il_text.proofs.Naming.{sources_of}
@@ -34,7 +35,7 @@ pieces_spell procs fits =
 
 -- The text is printed from a program whose names may stand in a text and whose numbers are of 64 bits.
 -- It is a text of the program.
-pub printed_is_text : (procs : List Proc) → list_all has_proper_names procs ≡ true → program_fault procs ≡ None → AllNumbers procs → IsText (program_text procs) procs
+pub printed_is_text : (procs : List Proc) → list_all has_proper_names procs ≡ true → program_fault procs ≡ None → Each HasNumbers procs → IsText (program_text procs) procs
 printed_is_text procs named passes fits =
     let checked = procs_checked procs passes in
     let each = each_checked procs named passes fits in

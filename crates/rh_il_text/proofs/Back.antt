@@ -3,7 +3,8 @@ use Rattle.std.proofs.Common.{◌≡◌, ℕ, suc, ◌<◌, ◌≤◌, ◌^◌, 
 use Rattle.std.proofs.lemmas.Bool.{and_parts, and_from, le-leb, ne_eqb, ltb-true}
 use Rattle.std.proofs.lemmas.List.Folds.{list_all-append}
 use Rattle.std.specs.Prelude.{nat_lt}
-use Rattle.std.specs.List.{list_all}
+use Rattle.std.specs.List.{AllByRecursion, list_all}
+use Rattle.rh_list.proofs.Appended.{apart}
 use Rattle.rh_il.specs.declared.value.Op.{Op}
 use Rattle.rh_il.specs.declared.program.Base.{Base}
 use Rattle.rh_il.specs.declared.program.Base.TheVariants.{Var as VarBase, Num as NumBase}
@@ -11,9 +12,10 @@ use Rattle.rh_il.specs.declared.program.Stmt.{Stmt}
 use Rattle.rh_il.specs.declared.program.Stmt.TheVariants.{Skip as SkipStmt, Copy as CopyStmt, Address as AddressStmt, Load as LoadStmt, Compute as ComputeStmt, Write as WriteStmt, New as NewStmt, Call as CallStmt, Goto as GotoStmt, If as IfStmt, Return as ReturnStmt}
 use Rattle.rh_il.specs.declared.program.Proc.{Proc}
 use Rattle.rh_il.specs.Checks.{is_base}
+use Rattle.rh_il.specs.Numbers.{base_numbers}
+use Rattle.rh_il.specs.Value.{IsNumber}
 use Rattle.rh_il_text.specs.Text.{name_at, proc_name}
 use Rattle.rh_il_text.specs.Known.{is_known, operand_marks, line_marks, place_of, number_of, base_of, stmt_of}
-use Rattle.rh_il_text.specs.Numbers.{BaseNumber}
 use Rattle.rh_il_text.proofs.Fits.{IsProper, OperandFits, LineFits}
 use Rattle.rh_il_text.proofs.Naming.{operand_of, line_of}
 use Rattle.rh_il_text.proofs.Placed.{called}
@@ -50,15 +52,15 @@ module _ (procs : List Proc) (vars : List (List ℕ)) (named : Named procs vars)
     known : NoneMissing (operand_marks vars (called procs) (operand_of vars x))
     fits : OperandFits (operand_of vars x)
 
-  base_back : (x : Base) → is_base (length vars) x ≡ true → BaseNumber x → BaseBack x
+  base_back : (x : Base) → is_base (length vars) x ≡ true → AllByRecursion IsNumber (base_numbers x) → BaseBack x
   base_back (VarBase x) lt fits = record {
     back = ap (λ (n : ℕ). VarBase n) (named.var_back x lt);
     known = rw (named.var_known x lt) refl;
     fits = named.var_proper x lt;
   }
-  base_back (NumBase (pos n)) lt fits = record { back = ap (λ (c : ℤ). NumBase c) (positive_back n fits.sfits); known = refl; fits = fits.sfits }
+  base_back (NumBase (pos n)) lt fits = record { back = ap (λ (c : ℤ). NumBase c) (positive_back n fits.0.sfits); known = refl; fits = fits.0.sfits }
   base_back (NumBase (negsuc n)) lt fits =
-      let small : n < 2 ^ 63 = fits.sfits in
+      let small : n < 2 ^ 63 = fits.0.sfits in
       record { back = ap (λ (c : ℤ). NumBase c) (negative_back n small); known = refl; fits = omega arith }
 
   -- a statement
@@ -147,7 +149,8 @@ module _ (procs : List Proc) (vars : List (List ℕ)) (named : Named procs vars)
   stmt_back stmts short (ComputeStmt to op left right) s =
       let parts = and_parts (is_var to) (is_base (length vars) left && is_base (length vars) right) s.numbers in
       let both = and_parts (is_base (length vars) left) (is_base (length vars) right) parts.1 in
-      compute_back to op left right parts.0 (base_back left both.0 s.fits.0) (base_back right both.1 s.fits.1)
+      let fits = apart IsNumber (base_numbers left) (base_numbers right) s.fits in
+      compute_back to op left right parts.0 (base_back left both.0 fits.0) (base_back right both.1 fits.1)
   stmt_back stmts short (WriteStmt to from) s =
       let parts = and_parts (is_var to) (is_base (length vars) from) s.numbers in write_back to from parts.0 (base_back from parts.1 s.fits)
   stmt_back stmts short (NewStmt to) s = new_back to s.numbers

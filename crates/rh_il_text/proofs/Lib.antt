@@ -1,6 +1,7 @@
 pub mod Places
 pub mod Classes
 pub mod Fronts
+pub mod Assignments
 pub mod Statements
 pub mod Parts
 pub mod Sources

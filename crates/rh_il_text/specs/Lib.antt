@@ -7,4 +7,3 @@ pub mod Parts
 pub mod Known
 pub mod Program
 pub mod Index
-pub mod Numbers

@@ -6,7 +6,6 @@ mod grammar;
 mod judge;
 mod marks;
 mod names;
-mod numbers;
 mod printer;
 mod read;
 mod reader;
@@ -19,10 +18,3 @@ pub use fault::ReadFault;
 pub use names::Names;
 pub use printer::{op_text, print_program, push, push_number};
 pub use read::read_program;
-
-#[cfg(test)]
-mod fault_tests;
-#[cfg(test)]
-mod read_tests;
-#[cfg(test)]
-mod tests;

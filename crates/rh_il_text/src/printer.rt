@@ -6,8 +6,7 @@ ghost use Rattle.std.specs.Fmt.{decimal, signed_decimal};
 ghost use Rattle.rh_il_text.specs.Program.{IsText};
 ghost use Rattle.rh_il_text.specs.Text.{name_at, proc_name, op_text, base_text, to_text, compute_text, call_text, branch_text, stmt_text, line_text, locals_text, vars_text, proc_text, text_at, program_text};
 
-use crate::numbers::numbers_fit;
-use rh_il::{Base, Name, Op, Proc, Program, Stmt};
+use rh_il::{Base, Name, Op, Proc, Program, Stmt, numbers_fit};
 use std::alloc::{AllocError, Global};
 
 /// Adds bytes to a text.

@@ -5,6 +5,7 @@ use Rattle.std.specs.Option.{option_map, option_map_or, option_and_then}
 use Rattle.std.specs.Prelude.{slice_get, replicate}
 use Rattle.std.specs.Str.{bytes_eq}
 use Rattle.std.proofs.lemmas.Bool.{ltb-true}
+use Rattle.rh_list.specs.Each.{Each}
 use Rattle.rh_il.specs.declared.program.Proc.{Proc}
 use Rattle.rh_il.specs.declared.program.Stmt.{Stmt}
 use Rattle.rh_il.specs.declared.program.Stmt.TheVariants.{Skip, Copy, Address, Load, Compute, Write, New, Call, Goto, If, Return}
@@ -14,21 +15,20 @@ use Rattle.rh_il.specs.Checks.{IsProgram, is_called}
 use Rattle.rh_il.specs.Flow.{edge_target}
 use Rattle.rh_il.specs.Value.{IsNumber}
 use Rattle.rh_il.proofs.Passed.{passed}
+use Rattle.rh_il.proofs.ProcChecks.{stmt_in_range}
 use Rattle.rh_il_step.specs.declared.frame.Frame.{Frame}
-use Rattle.rh_il_step.specs.Run.{Returns, main_of, next, run, start}
+use Rattle.rh_il_step.specs.Run.{Returns, main_number, next, run, start}
 use Rattle.rh_il_step.specs.State.{State, IsHeld, cell, statement_at}
 use Rattle.rh_il_step.specs.Step.{Outcome, Went, Returned, Stuck, entered, executed, fresh_cells, step, step_from}
 use Rattle.rh_rule.specs.declared.rule.Rule.{Rule}
 use Rattle.rh_rule.specs.declared.rule.Ruling.{Ruling}
 use Rattle.rh_rule.specs.declared.schema.Schema.{Schema}
-use Rattle.rh_ground.specs.Each.{Each}
 use Rattle.rh_ground.specs.Facts.{Known}
 use Rattle.rh_ground.proofs.Members.{read_all_numbered}
 use Rattle.rh_ground.proofs.Shapes.{Shape, Calling, shape_of}
 use Rattle.rh_transform.specs.Rewritten.{first_applicable, rewritten_statement, rewritten_body, rewritten_proc, rewritten}
 use Rattle.rh_lift.specs.Runs.{is_call, AreStraight, AreSound, ReturnsKept}
 use Rattle.rh_lift.specs.Template.{IsSafe}
-use Rattle.rh_transform.proofs.InRange.{stmt_in_range}
 use Rattle.rh_lift.proofs.Runs.{executed_by}
 use Rattle.rh_transform.specs.Bare.{IsBare}
 use Rattle.rh_transform.proofs.Candidates.{body_at, shape_same, target_same}
@@ -92,9 +92,9 @@ executed_at procs top cells at = elim at as (λ _. Outcome) [ None ↦ Stuck | S
 
 -- ---- main
 
-main_below : (procs : List Proc) → 0 < length procs → main_of procs < length procs
+main_below : (procs : List Proc) → 0 < length procs → main_number procs < length procs
 main_below procs some =
-    let test : Proc → Bool = λ proc. bytes_eq proc.name (codes "main") in
+    let test : Proc → Bool = is_called (codes "main") in
     let place : ℕ = position_or_len test procs in
     elim (nat_lt place (length procs)) as (λ b. nat_lt place (length procs) ≡ b → unwrap_or (cond b (Some place) None) 0 < length procs)
     [ true ↦ λ is. ltb-true _ _ is | false ↦ λ is. some ] refl
@@ -200,11 +200,11 @@ module _ (schemas : List Schema) (rules : List Rule) (rulings : List Ruling) (kn
       let before : step procs state ≡ executed_at procs safe.top state.cells (statement_at procs safe.top) = ap (λ frames. step_from procs frames state.cells) safe.frames in
       safe_at safe.top state.cells safe.proc (statement_at procs safe.top) safe.proc_at safe.safe refl new (sym before ∙ went)
 
-  main_same : main_of after ≡ main_of procs
+  main_same : main_number after ≡ main_number procs
   main_same =
-      let places = names_kept (λ name. bytes_eq name (codes "main")) (rewritten_proc known rules rulings) 0 procs (λ k proc. refl) in
+      let places = names_kept (bytes_eq (codes "main")) (rewritten_proc known rules rulings) 0 procs (λ k proc. refl) in
       ap (λ n. unwrap_or (cond (nat_lt n (length after)) (Some n) None) 0) places
-      ∙ ap (λ size. unwrap_or (cond (nat_lt (position_or_len (λ proc. bytes_eq proc.name (codes "main")) procs) size) (Some (position_or_len (λ proc. bytes_eq proc.name (codes "main")) procs)) None) 0)
+      ∙ ap (λ size. unwrap_or (cond (nat_lt (position_or_len (is_called (codes "main")) procs) size) (Some (position_or_len (is_called (codes "main")) procs)) None) 0)
       (size_kept (rewritten_proc known rules rulings) 0 procs)
 
   fresh_same : (callee : ℕ) (value : Value) → fresh_cells after callee value ≡ fresh_cells procs callee value
@@ -216,19 +216,19 @@ module _ (schemas : List Schema) (rules : List Rule) (rulings : List Ruling) (kn
   start_same : (arg : ℤ) → start after arg ≡ start procs arg
   start_same arg =
       ap (λ main. record { frames = entered main 0 ∷ []; cells = fresh_cells after main (Num arg) }) main_same
-      ∙ ap (λ cells. record { frames = entered (main_of procs) 0 ∷ []; cells = cells }) (fresh_same (main_of procs) (Num arg))
+      ∙ ap (λ cells. record { frames = entered (main_number procs) 0 ∷ []; cells = cells }) (fresh_same (main_number procs) (Num arg))
 
   start_safe : (arg : ℤ) → IsNumber arg → IsSafeState procs (start procs arg)
   start_safe arg fits =
-      let found = read_at procs (main_of procs) (main_below procs (some_called procs (codes "main") (passed procs program.passes).main)) in
+      let found = read_at procs (main_number procs) (main_below procs (some_called procs (codes "main") (passed procs program.passes).main)) in
       let proc : Proc = found.0 in
-      let cells_are : fresh_cells procs (main_of procs) (Num arg) ≡ Num arg ∷ replicate (length proc.vars - 1) (Num (pos 0)) =
+      let cells_are : fresh_cells procs (main_number procs) (Num arg) ≡ Num arg ∷ replicate (length proc.vars - 1) (Num (pos 0)) =
       ap (λ o. elim o as (λ _. List Value) [ None ↦ [] | Some p ↦ Num arg ∷ replicate (length p.vars - 1) (Num (pos 0)) ]) found.1 in
       let size : length (replicate (length proc.vars - 1) (Num (pos 0))) ≡ length proc.vars - 1 = length_replicate (length proc.vars - 1) (Num (pos 0)) in
       let fine : IsSafe (length proc.vars) 0 (Num arg ∷ replicate (length proc.vars - 1) (Num (pos 0))) =
       record { inside = omega (arith, size); held = λ k. first_held _ arg (length proc.vars - 1) k fits } in
       record {
-        top = entered (main_of procs) 0;
+        top = entered (main_number procs) 0;
         frames = refl;
         proc = proc;
         proc_at = found.1;

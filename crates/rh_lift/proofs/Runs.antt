@@ -2,9 +2,11 @@
 use Rattle.std.proofs.Common.{ℕ, ◌≡◌, ◌≢◌, List, map, length, Option, Some, None, refl, ap}
 use Rattle.std.specs.List.{flat_map}
 use Rattle.std.specs.Prelude.{slice_get}
+use Rattle.rh_list.specs.Each.{Each}
 use Rattle.rh_il.specs.declared.program.Proc.{Proc}
 use Rattle.rh_il.specs.declared.program.Stmt.{Stmt}
 use Rattle.rh_il.specs.declared.value.Value.{Value}
+use Rattle.rh_il.specs.Numbers.{HasNumbers}
 use Rattle.rh_il_step.specs.declared.frame.Frame.{Frame}
 use Rattle.rh_il_step.specs.Step.{Stuck, executed}
 use Rattle.rh_rule.specs.declared.rule.Rule.{Rule}
@@ -17,10 +19,8 @@ use Rattle.rh_oblig.specs.Statement.{before}
 use Rattle.rh_oblig.specs.Valid.{are_true_in}
 use Rattle.rh_transform.specs.Rewritten.{Candidate, first_applicable}
 use Rattle.rh_term.specs.Model.{Model}
-use Rattle.rh_ground.specs.Each.{Each}
 use Rattle.rh_lift.specs.Runs.{AreSound}
 use Rattle.rh_lift.specs.Template.{model_at, IsSafe, AreMet}
-use Rattle.rh_ground.specs.Constants.{HasNumbers}
 use Rattle.rh_ground.proofs.Fitting.{binding_fits}
 use Rattle.rh_lift.proofs.Kept.{templates_step}
 use Rattle.rh_transform.specs.Bare.{IsBare}

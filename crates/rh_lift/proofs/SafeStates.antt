@@ -21,10 +21,10 @@ use Rattle.rh_il.specs.declared.value.Value.TheVariants.{Num, Ptr}
 use Rattle.rh_il.specs.Checks.{has_numbers}
 use Rattle.rh_il.specs.Op.{apply, truth}
 use Rattle.rh_il.specs.Value.{IsNumber, value_eq}
+use Rattle.rh_il.specs.Numbers.{base_numbers}
 use Rattle.rh_il_step.specs.declared.frame.Frame.{Frame}
 use Rattle.rh_il_step.specs.State.{State, IsHeld, cell}
 use Rattle.rh_il_step.specs.Step.{Outcome, Went, base_value, executed, goes_on, sets, loads, computes, writes, branches, past}
-use Rattle.rh_ground.specs.Constants.{base_numbers}
 use Rattle.rh_lift.specs.Runs.{IsStraight}
 use Rattle.rh_lift.specs.Template.{IsSafe}
 use Rattle.std.proofs.lemmas.Bool.{and_parts, ltb-true}

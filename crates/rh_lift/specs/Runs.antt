@@ -1,19 +1,19 @@
 -- What a program and its rewritten program return.
 use Rattle.std.specs.Prelude.{ℕ, ℤ, ◌≡◌, Bool, true, false, List, Some, slice_get}
 use Rattle.std.specs.List.{AllByRecursion}
+use Rattle.rh_list.specs.Each.{Each}
 use Rattle.rh_il.specs.declared.program.Proc.{Proc}
 use Rattle.rh_il.specs.declared.program.Stmt.{Stmt}
 use Rattle.rh_il.specs.declared.program.Stmt.TheVariants.{Call}
 use Rattle.rh_il.specs.declared.value.Value.{Value}
 use Rattle.rh_il.specs.Checks.{IsProgram}
 use Rattle.rh_il.specs.Value.{IsNumber}
+use Rattle.rh_il.specs.Numbers.{operand_numbers}
 use Rattle.rh_il_step.specs.Run.{Returns}
 use Rattle.rh_rule.specs.declared.rule.Rule.{Rule}
 use Rattle.rh_rule.specs.declared.rule.Ruling.{Ruling}
 use Rattle.rh_rule.specs.declared.rule.Ruling.TheVariants.{Admitted}
 use Rattle.rh_rule.specs.declared.schema.Schema.{Schema}
-use Rattle.rh_ground.specs.Constants.{operand_numbers}
-use Rattle.rh_ground.specs.Each.{Each}
 use Rattle.rh_ground.specs.Facts.{Known}
 use Rattle.rh_oblig.specs.Valid.{IsSound}
 use Rattle.rh_transform.specs.Bare.{IsBare}

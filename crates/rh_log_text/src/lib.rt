@@ -13,8 +13,6 @@ mod number;
 mod printer;
 mod reader;
 mod reading;
-#[cfg(test)]
-mod tests;
 mod waiting;
 
 pub use logs::{LogFault, PlacedLog, RuleLogs};

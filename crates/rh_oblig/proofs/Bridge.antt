@@ -3,6 +3,7 @@ use Rattle.std.proofs.Common.{◌≡◌, Bool, true, IsTrue, List, [], ◌∷◌
 use Rattle.std.specs.List.{list_all, flat_map, AllByRecursion}
 use Rattle.std.proofs.lemmas.Bool.{and_from}
 use Rattle.std.proofs.lemmas.List.Folds.{list_all-append}
+use Rattle.rh_list.proofs.Appended.{apart}
 use Rattle.rh_rule.specs.declared.rule.Form.{Form}
 use Rattle.rh_rule.specs.declared.schema.Param.{Param}
 use Rattle.rh_term.specs.declared.clause.Clause.{Clause}
@@ -30,10 +31,6 @@ pub record AreAxioms (terms : List Term) (axioms : List Clause) : Type 0 where
   pub within : are_within (length terms) axioms ≡ true
   pub are_laws : (model : Model) → IsModel model → are_true (same_in model terms) axioms ≡ true
 
-split : (P : Tree → Type 0) (a b : List Tree) → AllByRecursion P (a ++ b) → AllByRecursion P a × AllByRecursion P b
-split P [] b h = (tt, h)
-split P (x ∷ a) b h = let rest = split P a b h.1 in ((h.0, rest.0), rest.1)
-
 all_in : (base terms : List Term) (grown : Extends base terms) (trees : List Tree) → AllByRecursion (IsIn base) trees → AllByRecursion (IsIn terms) trees
 all_in base terms grown [] is_in = tt
 all_in base terms grown (tree ∷ trees) is_in = (stays_in base terms tree grown is_in.0, all_in base terms grown trees is_in.1)
@@ -60,9 +57,9 @@ module _ (params : List Param) (pattern : Form) (hypotheses : List TreeClause) (
       let trees : List Tree = first_trees params pattern hypotheses goal in
       let base : List Term = with_trees [] trees in
       let stand : AllByRecursion (Stands model terms list) trees = all_stand model base terms list (closed_extends base) trees (with_trees_has [] trees) sorted in
-      let goal_apart = split (Stands model terms list) (map Leaf (leaves_of params pattern) ++ flat_map clause_trees hypotheses) (literal_trees goal) stand in
+      let goal_apart = apart (Stands model terms list) (map Leaf (leaves_of params pattern) ++ flat_map clause_trees hypotheses) (literal_trees goal) stand in
       record {
-        in_hypotheses = (split (Stands model terms list) (map Leaf (leaves_of params pattern)) (flat_map clause_trees hypotheses) goal_apart.0).1;
+        in_hypotheses = (apart (Stands model terms list) (map Leaf (leaves_of params pattern)) (flat_map clause_trees hypotheses) goal_apart.0).1;
         left = goal_apart.1.0;
         right = goal_apart.1.1.0;
       }
@@ -106,8 +103,8 @@ trees_in params pattern hypotheses goal =
     let trees : List Tree = first_trees params pattern hypotheses goal in
     let base : List Term = with_trees [] trees in
     let all : AllByRecursion (IsIn (closed base)) trees = all_in base (closed base) (closed_extends base) trees (with_trees_has [] trees) in
-    let apart = split (IsIn (closed base)) (map Leaf (leaves_of params pattern) ++ flat_map clause_trees hypotheses) (literal_trees goal) all in
-    ((split (IsIn (closed base)) (map Leaf (leaves_of params pattern)) (flat_map clause_trees hypotheses) apart.0).1, apart.1)
+    let parts = apart (IsIn (closed base)) (map Leaf (leaves_of params pattern) ++ flat_map clause_trees hypotheses) (literal_trees goal) all in
+    ((apart (IsIn (closed base)) (map Leaf (leaves_of params pattern)) (flat_map clause_trees hypotheses) parts.0).1, parts.1)
 
 a_model : Model
 a_model = record { number = λ meta. pos 0; location = λ meta. 0; any = nothing; fresh = nothing; answer = nothing; before = []; after = []; start = [] }

@@ -4,6 +4,7 @@ use Rattle.std.specs.Prelude.{fold}
 use Rattle.std.specs.List.{flat_map, AllByRecursion}
 use Rattle.std.proofs.Math.Seq.{drop-cons}
 use Rattle.std.proofs.lemmas.List.{map-append, take_more}
+use Rattle.rh_list.proofs.Appended.{apart}
 use Rattle.rh_oblig.specs.Obligation.{clause_in, clauses_in}
 use Rattle.rh_term.specs.declared.term.Term.{Term}
 use Rattle.rh_term.specs.Term.{HasParts}
@@ -28,14 +29,6 @@ pub leaves_are_fit : (terms leaves : List Term) → AllByRecursion (HasParts [])
 leaves_are_fit terms [] fit = tt
 leaves_are_fit terms (leaf ∷ leaves) fit = (leaf_parts terms leaf fit.0, leaves_are_fit terms leaves fit.1)
 
-pub first_half : (P : Tree → Type 0) (a b : List Tree) → AllByRecursion P (a ++ b) → AllByRecursion P a
-first_half P [] b h = tt
-first_half P (x ∷ a) b h = (h.0, first_half P a b h.1)
-
-pub second_half : (P : Tree → Type 0) (a b : List Tree) → AllByRecursion P (a ++ b) → AllByRecursion P b
-second_half P [] b h = h
-second_half P (x ∷ a) b h = second_half P a b h.1
-
 -- the literals from a place on are one literal and the others
 pub lits_cut : (lits : List BuiltLit) (i : ℕ) (d : BuiltLit) → i < length lits
     → flat_map literal_trees (lits_of (drop i lits)) ≡ literal_trees (lit_of (get_or lits i d)) ++ flat_map literal_trees (lits_of (drop (i + 1) lits))
@@ -58,7 +51,7 @@ pub adds_piece : (old new : List Term) (whole piece rest : List Tree) → whole 
 adds_piece old new whole piece rest cut is sorted =
     record {
       same = ap (λ terms. with_trees terms rest) is ∙ sym (with_trees_both old piece rest) ∙ ap (with_trees old) (sym cut);
-      sorted = second_half IsSorted piece rest (subst (AllByRecursion IsSorted) cut sorted);
+      sorted = (apart IsSorted piece rest (subst (AllByRecursion IsSorted) cut sorted)).1;
     }
 
 -- one more clause is placed

@@ -1,9 +1,10 @@
 -- What stands at the place of a tree stands for what the tree does, so clauses over places are true
 -- where the clauses over trees are.
-use Rattle.std.proofs.Common.{◌≡◌, ◌<◌, Bool, true, ◌&&◌, ◌||◌, List, [], ◌∷◌, ◌++◌, map, length, refl, ap, ◌∙◌}
+use Rattle.std.proofs.Common.{◌≡◌, ◌<◌, Bool, true, ◌&&◌, ◌||◌, List, [], ◌∷◌, map, length, refl, ap, ◌∙◌}
 use Rattle.std.specs.Prelude.{not, if◌then◌else◌, nat_lt}
 use Rattle.std.specs.List.{list_any, list_all, flat_map, AllByRecursion}
 use Rattle.std.proofs.lemmas.Bool.{and_from, lt-ltb}
+use Rattle.rh_list.proofs.Appended.{apart}
 use Rattle.rh_term.specs.declared.term.Term.{Term}
 use Rattle.rh_term.specs.declared.term.Term.TheVariants.{Num, Cst, Addr, Any, Fresh, Answer, Before, After, Start, Sel, Upd, Op as Computed, Kind, IsNum, IsPtr, Una, Yes}
 use Rattle.rh_term.specs.Clause.{is_true_lit, are_true, is_within, are_within}
@@ -87,16 +88,11 @@ module _ (model : Model) (terms : List Term) (list : IsTermList terms) where
       ap (λ b. b || list_any (is_true_lit (same_in model terms)) (map (lit_in terms) lits)) (lit_denotes lit stand.0 stand.1.0)
       ∙ ap (λ b. is_true_in model lit || b) (lits_denote lits stand.1.1)
 
-  -- a fact of all elements of two lists together is one of each list
-  split_all : (P : Tree → Type 0) (a b : List Tree) → AllByRecursion P (a ++ b) → AllByRecursion P a × AllByRecursion P b
-  split_all P [] b h = (tt, h)
-  split_all P (x ∷ a) b h = let rest = split_all P a b h.1 in ((h.0, rest.0), rest.1)
-
   pub clauses_denote : (clauses : List TreeClause) → AllByRecursion Stands (flat_map clause_trees clauses)
       → are_true (same_in model terms) (clauses_in terms clauses) ≡ are_true_in model clauses
   clauses_denote [] stand = refl
   clauses_denote (clause ∷ clauses) stand =
-      let parts = split_all Stands (clause_trees clause) (flat_map clause_trees clauses) stand in
+      let parts = apart Stands (clause_trees clause) (flat_map clause_trees clauses) stand in
       ap (λ b. b && are_true (same_in model terms) (clauses_in terms clauses)) (lits_denote clause parts.0)
       ∙ ap (λ b. list_any (is_true_in model) clause && b) (clauses_denote clauses parts.1)
 
@@ -119,5 +115,5 @@ module _ (model : Model) (terms : List Term) (list : IsTermList terms) where
   pub clauses_within : (clauses : List TreeClause) → AllByRecursion Stands (flat_map clause_trees clauses) → are_within (length terms) (clauses_in terms clauses) ≡ true
   clauses_within [] stand = refl
   clauses_within (clause ∷ clauses) stand =
-      let parts = split_all Stands (clause_trees clause) (flat_map clause_trees clauses) stand in
+      let parts = apart Stands (clause_trees clause) (flat_map clause_trees clauses) stand in
       and_from _ _ (lits_within clause parts.0) (clauses_within clauses parts.1)

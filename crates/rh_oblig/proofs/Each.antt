@@ -9,6 +9,7 @@ use Rattle.std.proofs.lemmas.Bool.{le-ltb, lt-ltb}
 use Rattle.std.proofs.lemmas.List.{map-append, take-append-drop, take_more}
 use Rattle.std.proofs.lemmas.List.Elements.{All-push}
 use Rattle.std.proofs.lemmas.List.Folds.{find-append}
+use Rattle.rh_list.proofs.Appended.{apart}
 use Rattle.rh_rule.specs.declared.rule.Rule.{Rule}
 use Rattle.rh_rule.specs.declared.schema.Schema.{Schema}
 use Rattle.rh_term.specs.declared.term.Term.{Term}
@@ -93,16 +94,12 @@ excess_here schemas rule goals i d within none large =
     ∙ excess_apart schemas rule (lits_of (take i goals)) (lit_of (get_or goals i d) ∷ lits_of (drop (suc i) goals)) none
     ∙ picked (length (terms_of schemas rule (lit_of (get_or goals i d)))) (sizes schemas rule (lits_of (drop (suc i) goals))) large
 
-back_of : (P : TreeLit → Type 0) (a b : List TreeLit) → AllByRecursion P (a ++ b) → AllByRecursion P b
-back_of P [] b all = all
-back_of P (x ∷ a) b all = back_of P a b all.1
-
 -- the trees of each goal are sorted
 pub sorted_at : (goals : List BuiltLit) (i : ℕ) (d : BuiltLit) → i < length goals
     → AllByRecursion (λ goal. AllByRecursion IsSorted (literal_trees goal)) (lits_of goals) → AllByRecursion IsSorted (literal_trees (lit_of (get_or goals i d)))
 sorted_at goals i d within all =
     let sorted : TreeLit → Type 0 = λ goal. AllByRecursion IsSorted (literal_trees goal) in
-    (back_of sorted (lits_of (take i goals)) (lit_of (get_or goals i d) ∷ lits_of (drop (suc i) goals)) (subst (AllByRecursion sorted) (cut_at goals i d within) all)).0
+    (apart sorted (lits_of (take i goals)) (lit_of (get_or goals i d) ∷ lits_of (drop (suc i) goals)) (subst (AllByRecursion sorted) (cut_at goals i d within) all)).1.0
 
 pub err_is : {T E : Type 0} → (result : Result T E) (given told : E) → IsErrAnd result (λ fault. fault ≡ given) → result ≡ Err told → given ≡ told
 err_is (Ok value) given told same is = elim same [ ]

@@ -3,27 +3,11 @@ use Rattle.std.proofs.Common.{ℕ, suc, ◌≡◌, ◌<◌, ◌≤◌, Bool, tru
 use Rattle.std.specs.Prelude.{slice_get}
 use Rattle.std.proofs.lemmas.Bool.{and_parts, and_from, eq-eqb, eqb-false}
 use Rattle.std.proofs.lemmas.Bool.Decides.{Decides-int_eq}
-use Rattle.rh_il.specs.declared.value.Op.{Op as Operator}
-use Rattle.rh_il.specs.declared.value.Op.TheVariants.{Add, Sub, Mul, Less, Equal}
 use Rattle.rh_il.specs.Op.{op_eq}
+use Rattle.rh_il.proofs.Operators.{op_eq-true, op_eq-refl}
 use Rattle.rh_term.specs.declared.term.Term.{Term}
 use Rattle.rh_term.specs.declared.term.Term.TheVariants.{Num, Cst, Addr, Any, Fresh, Answer, Before, After, Start, Sel, Upd, Op as Computed, Kind, IsNum, IsPtr, Una, Yes}
 use Rattle.rh_oblig.specs.Tree.{term_eq, place_of, with_term}
-
-op_eq-true : (a b : Operator) → op_eq a b ≡ true → a ≡ b
-op_eq-true Add Add e = refl
-op_eq-true Sub Sub e = refl
-op_eq-true Mul Mul e = refl
-op_eq-true Less Less e = refl
-op_eq-true Equal Equal e = refl
-op_eq-true _ _ e = cc
-
-op_eq-refl : (a : Operator) → op_eq a a ≡ true
-op_eq-refl Add = refl
-op_eq-refl Sub = refl
-op_eq-refl Mul = refl
-op_eq-refl Less = refl
-op_eq-refl Equal = refl
 
 eqs : (a b c d : ℕ) → ((a == b) && (c == d)) ≡ true → (a ≡ b) × (c ≡ d)
 eqs a b c d e = let parts = and_parts (a == b) (c == d) e in (eqb-true a b parts.0, eqb-true c d parts.1)

@@ -2,6 +2,7 @@
 use Rattle.std.proofs.Common.{ℕ, ◌≡◌, true, List, [], ◌∷◌, ◌++◌, map, Option, Some, None, refl}
 use Rattle.std.specs.Prelude.{slice_get, pos, length}
 use Rattle.std.specs.List.{flat_map, AllByRecursion, range_with_len}
+use Rattle.rh_list.proofs.Appended.{joined}
 use Rattle.rh_il.specs.declared.program.Slot.{Slot}
 use Rattle.rh_il.specs.declared.program.Slot.TheVariants.{Out, Then, Else}
 use Rattle.rh_il.specs.declared.value.Op.{Op}
@@ -64,17 +65,13 @@ AreClauses clauses = AllByRecursion AreLits clauses
 
 -- ---- lists of facts
 
-all_both : {X : Type 0} (P : X → Type 0) (a b : List X) → AllByRecursion P a → AllByRecursion P b → AllByRecursion P (a ++ b)
-all_both P [] b p q = q
-all_both P (x ∷ a) b p q = (p.0, all_both P a b p.1 q)
-
 all_mapped : {X Y : Type 0} (P : Y → Type 0) (f : X → Y) → ((x : X) → P (f x)) → (xs : List X) → AllByRecursion P (map f xs)
 all_mapped P f each [] = tt
 all_mapped P f each (x ∷ xs) = (each x, all_mapped P f each xs)
 
 all_flat : {X Y : Type 0} (P : Y → Type 0) (f : X → List Y) → ((x : X) → AllByRecursion P (f x)) → (xs : List X) → AllByRecursion P (flat_map f xs)
 all_flat P f each [] = tt
-all_flat P f each (x ∷ xs) = all_both P (f x) (flat_map f xs) (each x) (all_flat P f each xs)
+all_flat P f each (x ∷ xs) = joined P (f x) (flat_map f xs) (each x) (all_flat P f each xs)
 
 -- ---- values and stores
 
@@ -273,7 +270,7 @@ local_lits param meta =
 
 entry_lits : (metas : List ℕ) (param : ℕ) → AreClauses (entry_clauses metas param)
 entry_lits metas param =
-    all_both AreLits _ _
+    joined AreLits _ _
     (all_mapped AreLits (λ meta. unheld_tree (Leaf Start) (address meta) ∷ []) (λ meta. (unheld_lit (Leaf Start) (address meta) start_store (addr meta), tt)) metas)
     (all_mapped AreLits (local_clause param) (local_lits param) _)
 
@@ -294,7 +291,7 @@ own_lits params (Return result) = tt
 
 conclusion_lits : (params : List Param) (pattern : Form) (conclusion : Conclusion) → AreClauses (conclusion_clauses params pattern conclusion)
 conclusion_lits params pattern (Fact fact slot) =
-    all_both AreLits (units (slot_literals params pattern slot)) (own_clauses params pattern) (units_clauses _ (slot_lits params pattern slot)) (own_lits params pattern)
+    joined AreLits (units (slot_literals params pattern slot)) (own_clauses params pattern) (units_clauses _ (slot_lits params pattern slot)) (own_lits params pattern)
 conclusion_lits params pattern (Transform template) = tt
 
 hypotheses_lits : (schemas : List Schema) (rule : Rule) → AreClauses (hypotheses schemas rule)
@@ -305,10 +302,10 @@ hypotheses_lits schemas rule =
     let sides : AreClauses (units (map (side_literal rule.params) rule.sides)) =
     units_clauses (map (side_literal rule.params) rule.sides) (all_mapped IsLit (side_literal rule.params) (side_lit rule.params) rule.sides) in
     let step : AreClauses (units (step_literals rule.params rule.pattern)) = units_clauses (step_literals rule.params rule.pattern) (step_lits rule.params rule.pattern) in
-    all_both AreLits ((units (flat_map (fact_literals schemas rule.params before) rule.premises) ++ units (map (side_literal rule.params) rule.sides)) ++ units (step_literals rule.params rule.pattern))
+    joined AreLits ((units (flat_map (fact_literals schemas rule.params before) rule.premises) ++ units (map (side_literal rule.params) rule.sides)) ++ units (step_literals rule.params rule.pattern))
     (conclusion_clauses rule.params rule.pattern rule.conclusion)
-    (all_both AreLits (units (flat_map (fact_literals schemas rule.params before) rule.premises) ++ units (map (side_literal rule.params) rule.sides)) (units (step_literals rule.params rule.pattern))
-    (all_both AreLits (units (flat_map (fact_literals schemas rule.params before) rule.premises)) (units (map (side_literal rule.params) rule.sides)) premises sides) step)
+    (joined AreLits (units (flat_map (fact_literals schemas rule.params before) rule.premises) ++ units (map (side_literal rule.params) rule.sides)) (units (step_literals rule.params rule.pattern))
+    (joined AreLits (units (flat_map (fact_literals schemas rule.params before) rule.premises)) (units (map (side_literal rule.params) rule.sides)) premises sides) step)
     (conclusion_lits rule.params rule.pattern rule.conclusion)
 
 -- ---- goals
@@ -318,7 +315,7 @@ same_store_lit left right l r = record { left = l.sorted; right = r.sorted }
 
 plain_lits : (params : List Param) (pattern template : Form) → AreLits (step_literals params template ++ equals (store_after params pattern) (store_after params template) ∷ [])
 plain_lits params pattern template =
-    all_both IsLit (step_literals params template) (equals (store_after params pattern) (store_after params template) ∷ []) (step_lits params template)
+    joined IsLit (step_literals params template) (equals (store_after params pattern) (store_after params template) ∷ []) (step_lits params template)
     (same_store_lit _ _ (after_store params pattern) (after_store params template), tt)
 
 same_value_lit : (params : List Param) (left right : RuleBase) → IsLit (equals (value params left) (value params right))
@@ -326,7 +323,7 @@ same_value_lit params left right = equal_values _ _ (before_value params left) (
 
 template_lits : (params : List Param) (pattern template : Form) → AreLits (template_goals params pattern template)
 template_lits params (Call to arg) (Call to' arg') = (equal_values _ _ (addr to) (addr to'), (same_value_lit params arg arg', tt))
-template_lits params (If cond) (If cond') = all_both IsLit (step_literals params (If cond')) (equals (value params cond) (value params cond') ∷ []) (step_lits params (If cond')) (same_value_lit params cond cond', tt)
+template_lits params (If cond) (If cond') = joined IsLit (step_literals params (If cond')) (equals (value params cond) (value params cond') ∷ []) (step_lits params (If cond')) (same_value_lit params cond cond', tt)
 template_lits params (Return result) (Return result') = (same_value_lit params result result', tt)
 template_lits params pattern template = plain_lits params pattern template
 
@@ -342,7 +339,7 @@ lit_trees (lit ∷ lits) h = (h.0.left, (h.0.right, lit_trees lits h.1))
 
 clauses_trees : (clauses : List TreeClause) → AreClauses clauses → AllByRecursion IsSorted (flat_map clause_trees clauses)
 clauses_trees [] h = tt
-clauses_trees (clause ∷ clauses) h = all_both IsSorted (clause_trees clause) (flat_map clause_trees clauses) (lit_trees clause h.0) (clauses_trees clauses h.1)
+clauses_trees (clause ∷ clauses) h = joined IsSorted (clause_trees clause) (flat_map clause_trees clauses) (lit_trees clause h.0) (clauses_trees clauses h.1)
 
 first_fits : (pattern : Form) → HasParts [] (first_leaf pattern)
 first_fits (Entry param) = tt
@@ -368,8 +365,8 @@ pub leaves_fit : (params : List Param) (pattern : Form) → AllByRecursion (HasP
 leaves_fit params pattern =
     let bindings : List Term = map (λ meta. binding_leaf meta (kind_of params meta)) (range_with_len 0 (length params)) in
     let constants : List Term = Num (pos 0) ∷ Num (pos 1) ∷ IsNum ∷ IsPtr ∷ Yes ∷ [] in
-    all_both (HasParts []) (constants ++ bindings) (first_leaf pattern ∷ [])
-    (all_both (HasParts []) constants bindings (tt, (tt, (tt, (tt, (tt, tt)))))
+    joined (HasParts []) (constants ++ bindings) (first_leaf pattern ∷ [])
+    (joined (HasParts []) constants bindings (tt, (tt, (tt, (tt, (tt, tt)))))
     (all_mapped (HasParts []) (λ meta. binding_leaf meta (kind_of params meta)) (λ meta. binding_fits meta (kind_of params meta)) (range_with_len 0 (length params))))
     (first_fits pattern, tt)
 
@@ -393,8 +390,8 @@ goals_sorted schemas rule = from_lits (goals schemas rule) (goals_lits schemas r
 pub trees_sorted : (params : List Param) (pattern : Form) (hypotheses : List TreeClause) (goal : TreeLit)
     → AllByRecursion IsSorted (flat_map clause_trees hypotheses) → AllByRecursion IsSorted (literal_trees goal) → AllByRecursion IsSorted (first_trees params pattern hypotheses goal)
 trees_sorted params pattern hypotheses goal known denied =
-    all_both IsSorted (map Leaf (leaves_of params pattern) ++ flat_map clause_trees hypotheses) (literal_trees goal)
-    (all_both IsSorted (map Leaf (leaves_of params pattern)) (flat_map clause_trees hypotheses) (leaves_sorted (leaves_of params pattern) (leaves_fit params pattern)) known)
+    joined IsSorted (map Leaf (leaves_of params pattern) ++ flat_map clause_trees hypotheses) (literal_trees goal)
+    (joined IsSorted (map Leaf (leaves_of params pattern)) (flat_map clause_trees hypotheses) (leaves_sorted (leaves_of params pattern) (leaves_fit params pattern)) known)
     denied
 
 pub first_trees_sorted : (schemas : List Schema) (rule : Rule) (goal : TreeLit) → AllByRecursion IsSorted (literal_trees goal)

@@ -12,8 +12,6 @@ mod obligation;
 mod own;
 mod statement;
 mod term_list;
-#[cfg(test)]
-mod tests;
 mod tree;
 
 pub use laws::admitted_rules_are_sound;

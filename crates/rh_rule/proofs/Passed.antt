@@ -1,9 +1,11 @@
 -- What schemas and rules that pass every check are known to have.
-use Rattle.std.proofs.Common.{◌≡◌, ℕ, zero, suc, ◌<◌, ◌≤◌, Bool, true, false, List, [], ◌∷◌, length, Option, Some, None, refl, sym, ap, ◌∙◌, arith, ⊎_elim}
-use Rattle.std.proofs.lemmas.Bool.{leb-true, cases_lt, and_parts}
+use Rattle.std.proofs.Common.{◌≡◌, ℕ, ◌≤◌, Bool, true, false, List, length, Option, Some, None, refl, sym, ap, ◌∙◌}
+use Rattle.std.proofs.lemmas.Bool.{leb-true, and_parts}
+use Rattle.std.proofs.lemmas.Option.{slice_get_within}
 use Rattle.std.specs.Prelude.{slice_get}
-use Rattle.std.specs.Option.{option_or, option_and_then}
+use Rattle.std.specs.Option.{option_and_then}
 use Rattle.rh_il.specs.Checks.{first_some}
+use Rattle.rh_il.proofs.Passed.{none_at, none_parts}
 use Rattle.rh_rule.specs.declared.schema.Schema.{Schema}
 use Rattle.rh_rule.specs.declared.rule.Rule.{Rule}
 use Rattle.rh_rule.specs.declared.fault.RuleWrong.{RuleWrong}
@@ -11,32 +13,14 @@ use Rattle.rh_rule.specs.declared.fault.Item.{Item}
 use Rattle.rh_rule.specs.Checks.{unless, schema_fault, rule_fault, file_fault}
 use Rattle.rh_rule.specs.RuleFiles.{Rules, IsRuleFile, SchemaPassed, RulePassed}
 
-read_below : {X : Type 0} (xs : List X) (i : ℕ) (x : X) → slice_get xs i ≡ Some x → i < length xs
-read_below [] i x e = absurd cc
-read_below (y ∷ ys) zero x e = omega arith
-read_below (y ∷ ys) (suc i) x e = let rest = read_below ys i x e in omega arith
-
-none_parts : {X : Type 0} (a b : Option X) → option_or a b ≡ None → (a ≡ None) × (b ≡ None)
-none_parts None b h = (refl, h)
-none_parts (Some x) b h = absurd cc
-
-passes : (t : Bool) (kind : RuleWrong) (item : Item) → unless t kind item ≡ None → t ≡ true
+pub passes : (t : Bool) (kind : RuleWrong) (item : Item) → unless t kind item ≡ None → t ≡ true
 passes true kind item h = refl
 passes false kind item h = absurd cc
-
--- what isn't there among so many is at none of their places
-none_at : {X : Type 0} (n : ℕ) (found : ℕ → Option X) (k : ℕ) → first_some n found ≡ None → k < n → found k ≡ None
-none_at zero found k h lt = absurd (omega arith)
-none_at (suc n) found k h lt =
-    let parts = none_parts (first_some n found) (found n) h in
-    ⊎_elim (λ earlier. none_at n found k parts.0 earlier)
-    (λ last. let same : k ≡ n = omega arith in ap found same ∙ parts.1)
-    (cases_lt k n)
 
 -- what is read of a list passes, where nothing in the list fails
 read_passes : {X Y : Type 0} (fault : ℕ → X → Option Y) (xs : List X) (i : ℕ) (x : X) → first_some (length xs) (λ k. option_and_then (fault k) (slice_get xs k)) ≡ None → slice_get xs i ≡ Some x → fault i x ≡ None
 read_passes fault xs i x none read =
-    ap (option_and_then (fault i)) (sym read) ∙ none_at (length xs) (λ k. option_and_then (fault k) (slice_get xs k)) i none (read_below xs i x read)
+    ap (option_and_then (fault i)) (sym read) ∙ none_at (length xs) (λ k. option_and_then (fault k) (slice_get xs k)) i none (slice_get_within xs i x read)
 
 -- the parts of the checks of a rule file
 pub record Passed (schemas : List Schema) (rules : List Rule) : Type 0 where

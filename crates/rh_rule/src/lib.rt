@@ -16,7 +16,4 @@ pub use fault::{Item, Many, RuleFault, RuleWrong};
 pub use rule::{Arg, Conclusion, FactUse, Form, Rule, RuleBase, Ruling, Side, SideTerm};
 pub use rule_file::RuleFile;
 pub use schema::{Kind, MeaningAtom, MeaningBase, MeaningTerm, Param, Schema};
-pub use words::{are_proper, is_proper};
-
-#[cfg(test)]
-mod tests;
+pub use words::{are_proper, is_proper, is_upper_name};

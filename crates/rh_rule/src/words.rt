@@ -56,8 +56,8 @@ fn is_lower_name(name: &Name) -> bool
     }
 }
 
-/// Whether a parameter or a metavariable may have the name.
-fn is_upper_name(name: &Name) -> bool
+/// Whether a parameter or a metavariable may have the name: it begins with a capital letter.
+pub fn is_upper_name(name: &Name) -> bool
     ensures { result ≡ is_upper_name name.now }
 {
     match name.bytes().first() {

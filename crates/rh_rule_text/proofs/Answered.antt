@@ -6,14 +6,15 @@ use Rattle.rh_text.specs.declared.token.Token.{Token}
 use Rattle.rh_text.specs.Pieces.{AreTokens}
 use Rattle.rh_text.proofs.Unique.{tokens_unique, tokens_have_no_fault}
 use Rattle.rh_rule.specs.RuleFiles.{Rules}
-use Rattle.rh_rule_text.specs.declared.source.SourceFile.{SourceFile}
+use Rattle.rh_rule_source.specs.declared.source.SourceFile.{SourceFile}
 use Rattle.rh_rule_text.specs.declared.fault.RulesFault.{RulesFault}
 use Rattle.rh_rule_text.specs.declared.fault.RulesFault.TheVariants.{Lex, Syntax, Unknown, Rules as WrongRules, NoMemory}
-use Rattle.rh_rule_text.specs.Words.{word_of}
-use Rattle.rh_rule_text.specs.Header.{begins_headed}
-use Rattle.rh_rule_text.specs.Reading.{Spells, IsText, FaultsAs, LexFaultsAs}
+use Rattle.rh_rule_source.specs.Words.{word_of}
+use Rattle.rh_rule_source.specs.Header.{begins_headed}
+use Rattle.rh_rule_source.specs.Spelling.{Spells}
+use Rattle.rh_rule_text.specs.Reading.{IsText, FaultsAs, LexFaultsAs}
 use Rattle.rh_rule_text.specs.Answer.{IsAnswer, IsRefusal}
-use Rattle.rh_rule_text.proofs.OneFile.{header_told}
+use Rattle.rh_rule_source.proofs.OneFile.{header_told}
 use Rattle.rh_rule_text.proofs.OneReading.{one_rule_file, texts_have_no_fault, one_fault}
 
 -- the rule file that was read
@@ -37,7 +38,7 @@ refuses text (Err told) is faults fault there memory = this_or_memory text told 
 pub headed_told : (text : List ℕ) (tokens : List Token) (source : SourceFile) → AreTokens text tokens → Spells text source → begins_headed (map (word_of text) tokens) ≡ source.headed
 headed_told text tokens source are spells =
     let same = tokens_unique text tokens spells.tokens are spells.are_tokens in
-    ap (λ (ts : List Token). begins_headed (map (word_of text) ts)) same ∙ ap begins_headed spells.words ∙ header_told source.headed source.items
+    ap (λ (ts : List Token). begins_headed (map (word_of text) ts)) same ∙ ap begins_headed spells.words.same ∙ header_told source.headed source.items
 
 -- a text that spells a source has no lexical fault
 pub no_lexical_fault : (text : List ℕ) (source : SourceFile) (fault : RulesFault) → Spells text source → LexFaultsAs text fault → fault ≡ NoMemory

@@ -1,13 +1,14 @@
 -- Names that a fact, a rule or a file declares are told by their places, since no two are the same.
-use Rattle.std.proofs.Common.{◌≡◌, ℕ, zero, suc, ◌+◌, ◌-◌, ◌<◌, ◌^◌, min, Bool, true, false, cond, not, List, [], ◌∷◌, map, length, take, Option, Some, None, unwrap_or, is_some, refl, sym, ap, ◌∙◌, arith, ⊎_elim}
-use Rattle.std.proofs.lemmas.Bool.{cases_lt, or_parts}
+use Rattle.std.proofs.Common.{◌≡◌, ℕ, zero, suc, ◌+◌, ◌-◌, ◌<◌, ◌^◌, min, Bool, true, false, cond, not, List, [], ◌∷◌, map, length, take, Option, Some, None, unwrap_or, is_some, sym, ap, ◌∙◌, arith}
+use Rattle.std.proofs.lemmas.Bool.{or_parts}
 use Rattle.std.proofs.lemmas.Slice.Eq.{bytes_eq-Decides}
 use Rattle.std.proofs.lemmas.Iterator.Adapters.{position_from-zero}
 use Rattle.std.specs.Prelude.{slice_get}
 use Rattle.std.specs.List.{list_any, position, position_from}
-use Rattle.std.specs.Option.{option_or, option_map_or}
+use Rattle.std.specs.Option.{option_map_or}
 use Rattle.std.specs.Str.{bytes_eq}
 use Rattle.rh_il.specs.Checks.{first_some}
+use Rattle.rh_il.proofs.Passed.{none_at, none_parts}
 use Rattle.rh_il_text.proofs.IndexSteps.{is_some_position}
 use Rattle.rh_rule.specs.declared.schema.Param.{Param}
 use Rattle.rh_rule.specs.declared.schema.Schema.{Schema}
@@ -17,28 +18,13 @@ use Rattle.rh_rule.specs.declared.fault.Item.{Item}
 use Rattle.rh_rule.specs.declared.fault.Item.TheVariants.{Fact as FactItem}
 use Rattle.rh_rule.specs.declared.fault.RuleWrong.TheVariants.{DuplicateName}
 use Rattle.rh_rule.specs.Checks.{unless, schema_fault, rule_fault, file_fault}
-use Rattle.rh_rule_text.specs.declared.word.Spelled.{Spelled}
+use Rattle.rh_rule.proofs.Passed.{passes}
+use Rattle.rh_rule_source.specs.declared.word.Spelled.{Spelled}
 use Rattle.rh_rule_text.specs.Resolve.{place_of}
 use Rattle.rh_rule_text.specs.Unknown.{unknown}
 use Rattle.rh_rule_text.proofs.Each.{not_true}
 
 -- ---- what the checks say of names
-
-pub none_parts : {X : Type 0} (a b : Option X) → option_or a b ≡ None → (a ≡ None) × (b ≡ None)
-none_parts None b h = (refl, h)
-none_parts (Some x) b h = absurd cc
-
-passes : (t : Bool) (kind : RuleWrong) (item : Item) → unless t kind item ≡ None → t ≡ true
-passes true kind item h = refl
-passes false kind item h = absurd cc
-
-pub none_at : {X : Type 0} (n : ℕ) (fault : ℕ → Option X) (k : ℕ) → first_some n fault ≡ None → k < n → fault k ≡ None
-none_at zero fault k h lt = absurd (omega arith)
-none_at (suc n) fault k h lt =
-    let parts = none_parts (first_some n fault) (fault n) h in
-    ⊎_elim (λ earlier. none_at n fault k parts.0 earlier)
-    (λ last. let same : k ≡ n = omega arith in ap fault same ∙ parts.1)
-    (cases_lt k n)
 
 module _ {X : Type 0} (name : X → List ℕ) where
   -- no item before the one at the place has its name

@@ -4,7 +4,7 @@ use Rattle.std.proofs.lemmas.Bool.{and_parts, or_parts}
 use Rattle.std.specs.Prelude.{slice_get}
 use Rattle.std.specs.List.{list_all, list_any, AllByRecursion}
 use Rattle.std.specs.Option.{option_map_or}
-use Rattle.rh_rule_text.proofs.SourceInRange.{IsFilled}
+use Rattle.rh_rule_source.proofs.SourceInRange.{IsFilled}
 
 pub not_true : (t : Bool) → not t ≡ true → t ≡ false
 not_true true h = sym h

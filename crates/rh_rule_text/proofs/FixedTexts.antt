@@ -15,9 +15,9 @@ use Rattle.rh_il.specs.declared.program.Slot.TheVariants.{Out, Then, Else}
 use Rattle.rh_il_text.specs.Text.{op_text}
 use Rattle.rh_rule.specs.declared.schema.Kind.{Kind}
 use Rattle.rh_rule.specs.declared.schema.Kind.TheVariants.{Var, Const}
-use Rattle.rh_rule_text.specs.declared.word.Word.TheVariants.{Fixed, Number}
-use Rattle.rh_rule_text.specs.Grammar.{BECOMES, EQUAL, DIFFER, ARROW, SEMICOLON, COMMA, OPEN_PAREN, CLOSE_PAREN, OPEN_BRACE, CLOSE_BRACE, STAR, AMPERSAND, AT, UNDERSCORE, RHODIUM, FACT, MEANS, AND, NUMBER_OF, POINTER, UNALIASED, RULE, WHEN, ENTRY, GOTO, SKIP, IF, RETURN, NEW, CALL, IN, TRANSFORM}
-use Rattle.rh_rule_text.specs.Source.{op_word, kind_word, slot_word}
+use Rattle.rh_rule_source.specs.declared.word.Word.TheVariants.{Fixed, Number}
+use Rattle.rh_rule_source.specs.Grammar.{BECOMES, EQUAL, DIFFER, ARROW, SEMICOLON, COMMA, OPEN_PAREN, CLOSE_PAREN, OPEN_BRACE, CLOSE_BRACE, STAR, AMPERSAND, AT, UNDERSCORE, RHODIUM, FACT, MEANS, AND, NUMBER_OF, POINTER, UNALIASED, RULE, WHEN, ENTRY, GOTO, SKIP, IF, RETURN, NEW, CALL, IN, TRANSFORM}
+use Rattle.rh_rule_source.specs.Source.{op_word, kind_word, slot_word}
 use Rattle.rh_rule_text.specs.Text.{kind_text, slot_text}
 use Rattle.rh_rule_text.proofs.Prints.{Prints, Exactly, Always, Ends, fixed}
 

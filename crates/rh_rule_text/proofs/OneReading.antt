@@ -7,20 +7,21 @@ use Rattle.rh_grammar.proofs.Faults.{one_syntax_place, derivable_has_no_fault}
 use Rattle.rh_rule.specs.declared.fault.RuleFault.{RuleFault}
 use Rattle.rh_rule.specs.RuleFiles.{Rules}
 use Rattle.rh_rule.specs.Checks.{file_fault}
-use Rattle.rh_rule_text.specs.declared.source.SourceFile.{SourceFile}
+use Rattle.rh_rule_source.specs.declared.source.SourceFile.{SourceFile}
 use Rattle.rh_rule_text.specs.declared.fault.RulesFault.{RulesFault}
 use Rattle.rh_rule_text.specs.declared.fault.RulesFault.TheVariants.{Lex, Syntax, Unknown, Rules as WrongRules, NoMemory}
-use Rattle.rh_rule_text.specs.Grammar.{productions, file}
-use Rattle.rh_rule_text.specs.Words.{word_of}
+use Rattle.rh_rule_source.specs.Grammar.{productions, file}
+use Rattle.rh_rule_source.specs.Spelling.{Spells, classes}
+use Rattle.rh_rule_source.specs.Words.{word_of}
 use Rattle.rh_rule_text.specs.Unknown.{unknown_name}
-use Rattle.rh_rule_text.specs.Reading.{classes, offset_at, resolved, Spells, IsText, IsSyntaxAt, IsUnknownAt, FailsCheck, FaultsAs}
-use Rattle.rh_rule_text.proofs.OneFile.{file_words_unique}
+use Rattle.rh_rule_text.specs.Reading.{offset_at, resolved, IsText, IsSyntaxAt, IsUnknownAt, FailsCheck, FaultsAs}
+use Rattle.rh_rule_source.proofs.OneFile.{file_words_unique}
 
 -- a text spells one source
 pub one_source : (text : List ℕ) (a b : SourceFile) → Spells text a → Spells text b → a ≡ b
 one_source text a b first second =
     let tokens = tokens_unique text first.tokens second.tokens first.are_tokens second.are_tokens in
-    file_words_unique a b (sym first.words ∙ ap (λ (ts : List Token). map (word_of text) ts) tokens ∙ second.words)
+    file_words_unique a b (sym first.words.same ∙ ap (λ (ts : List Token). map (word_of text) ts) tokens ∙ second.words.same)
 
 pub one_rule_file : (text : List ℕ) (a b : Rules) → IsText text a → IsText text b → a ≡ b
 one_rule_file text a b first second =
@@ -30,7 +31,7 @@ one_rule_file text a b first second =
 no_syntax_fault : (text : List ℕ) (source : SourceFile) (offset : ℕ) → Spells text source → IsSyntaxAt text offset → ⊥
 no_syntax_fault text source offset spells there =
     let tokens = tokens_unique text there.tokens spells.tokens there.are_tokens spells.are_tokens in
-    derivable_has_no_fault productions file (classes text spells.tokens) there.place spells.derivable
+    derivable_has_no_fault productions file (classes text spells.tokens) there.place spells.words.derivable
     (subst (λ (ts : List Token). IsSyntaxFault productions file (classes text ts) there.place) tokens there.fault)
 
 -- what is missing is not there

@@ -16,20 +16,20 @@ use Rattle.rh_rule.specs.Words.{is_proper, schema_is_proper, are_proper_params}
 use Rattle.rh_rule.specs.Numbers.{is_below, are_below}
 use Rattle.rh_rule.specs.Operands.{is_wild, term_operands, side_terms}
 use Rattle.rh_rule.specs.Shapes.{has_wild}
-use Rattle.rh_rule_text.specs.declared.word.Word.{Word}
-use Rattle.rh_rule_text.specs.declared.word.Word.TheVariants.{Fixed, Lower}
-use Rattle.rh_rule_text.specs.declared.source.Relation.{Relation}
-use Rattle.rh_rule_text.specs.declared.source.Relation.TheVariants.{Same, Differ}
-use Rattle.rh_rule_text.specs.declared.source.SourceSide.TheVariants.{Plain as PlainSide, Compute as ComputedSide}
-use Rattle.rh_rule_text.specs.declared.source.SourceCond.{SourceCond}
-use Rattle.rh_rule_text.specs.declared.source.SourceCond.TheVariants.{Fact as FactCond, Side}
-use Rattle.rh_rule_text.specs.Grammar.{COMMA, OPEN_PAREN, CLOSE_PAREN, AT, IN, WHEN}
-use Rattle.rh_rule_text.specs.Source.{base_words, use_words, side_words, cond_words, when_words, relation_word}
+use Rattle.rh_rule_source.specs.declared.word.Word.{Word}
+use Rattle.rh_rule_source.specs.declared.word.Word.TheVariants.{Fixed, Lower}
+use Rattle.rh_rule_source.specs.declared.source.Relation.{Relation}
+use Rattle.rh_rule_source.specs.declared.source.Relation.TheVariants.{Same, Differ}
+use Rattle.rh_rule_source.specs.declared.source.SourceSide.TheVariants.{Plain as PlainSide, Compute as ComputedSide}
+use Rattle.rh_rule_source.specs.declared.source.SourceCond.{SourceCond}
+use Rattle.rh_rule_source.specs.declared.source.SourceCond.TheVariants.{Fact as FactCond, Side}
+use Rattle.rh_rule_source.specs.Grammar.{COMMA, OPEN_PAREN, CLOSE_PAREN, AT, IN, WHEN}
+use Rattle.rh_rule_source.specs.Source.{base_words, use_words, side_words, cond_words, when_words, relation_word}
 use Rattle.rh_rule_text.specs.Resolve.{place_of, rule_base, fact_of, side_term, compared_side, premises_of, sides_of}
 use Rattle.rh_rule_text.specs.Unknown.{unknown, unknown_base, unknown_use, unknown_side, unknown_cond, first_of}
 use Rattle.rh_rule_text.specs.Text.{operand_text, schema_name, fact_text, premise_text, side_term_text, side_text, listed, conditions_text}
 use Rattle.rh_rule_text.specs.Ranges.{NumberFits, NumbersFit}
-use Rattle.rh_rule_text.proofs.SourceInRange.{BaseInRange, UseInRange, SideInRange, CondInRange, IsFilled}
+use Rattle.rh_rule_source.proofs.SourceInRange.{BaseInRange, UseInRange, SideInRange, CondInRange, IsFilled}
 use Rattle.rh_rule_text.proofs.Each.{read_at, passes_at, each_passes, each_fails, each_both, filled}
 use Rattle.rh_rule_text.proofs.Prints.{Prints, Exactly, Always, Ends, tells, as_text, behind, fixed_behind, fixed_before, anywhere, nothing}
 use Rattle.rh_rule_text.proofs.FixedTexts.{open_text, close_text, comma_text, same_text, differ_text, when_text, at_in_text}

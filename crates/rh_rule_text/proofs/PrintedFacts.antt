@@ -10,20 +10,20 @@ use Rattle.rh_rule.specs.declared.schema.MeaningAtom.TheVariants.{Same as SameAt
 use Rattle.rh_rule.specs.declared.schema.Schema.{Schema}
 use Rattle.rh_rule.specs.Words.{is_proper}
 use Rattle.rh_rule.specs.Numbers.{base_is_below, term_is_below, atom_is_below}
-use Rattle.rh_rule_text.specs.declared.word.Word.{Word}
-use Rattle.rh_rule_text.specs.declared.word.Word.TheVariants.{Fixed, Lower, Upper}
-use Rattle.rh_rule_text.specs.declared.source.SourceParam.{SourceParam}
-use Rattle.rh_rule_text.specs.declared.source.Relation.{Relation}
-use Rattle.rh_rule_text.specs.declared.source.Relation.TheVariants.{Same, Differ}
-use Rattle.rh_rule_text.specs.declared.source.SourceTerm.TheVariants.{Plain as PlainTerm, Address as AddressTerm, Deref, Compute as ComputedTerm}
-use Rattle.rh_rule_text.specs.declared.source.SourceAtom.TheVariants.{IsNumber, IsPointer, Unaliased, Compare}
-use Rattle.rh_rule_text.specs.Grammar.{AND, OPEN_PAREN, CLOSE_PAREN, FACT, MEANS, SEMICOLON}
-use Rattle.rh_rule_text.specs.Source.{term_words, atom_words, fact_words, relation_word, params_words, atoms_words}
+use Rattle.rh_rule_source.specs.declared.word.Word.{Word}
+use Rattle.rh_rule_source.specs.declared.word.Word.TheVariants.{Fixed, Lower, Upper}
+use Rattle.rh_rule_source.specs.declared.source.SourceParam.{SourceParam}
+use Rattle.rh_rule_source.specs.declared.source.Relation.{Relation}
+use Rattle.rh_rule_source.specs.declared.source.Relation.TheVariants.{Same, Differ}
+use Rattle.rh_rule_source.specs.declared.source.SourceTerm.TheVariants.{Plain as PlainTerm, Address as AddressTerm, Deref, Compute as ComputedTerm}
+use Rattle.rh_rule_source.specs.declared.source.SourceAtom.TheVariants.{IsNumber, IsPointer, Unaliased, Compare}
+use Rattle.rh_rule_source.specs.Grammar.{AND, OPEN_PAREN, CLOSE_PAREN, FACT, MEANS, SEMICOLON}
+use Rattle.rh_rule_source.specs.Source.{term_words, atom_words, fact_words, relation_word, params_words, atoms_words}
 use Rattle.rh_rule_text.specs.Resolve.{place_of, meaning_base, meaning_term, meaning_atom, compared_atom, rule_param, metas_of, schema_of}
 use Rattle.rh_rule_text.specs.Unknown.{unknown, unknown_term, unknown_atom, unknown_fact, first_of}
 use Rattle.rh_rule_text.specs.Text.{term_text, atom_text, schema_text}
 use Rattle.rh_rule_text.specs.Ranges.{TermNumbersFit, AtomNumbersFit}
-use Rattle.rh_rule_text.proofs.SourceInRange.{TermInRange, AtomInRange, FactInRange, IsFilled}
+use Rattle.rh_rule_source.proofs.SourceInRange.{TermInRange, AtomInRange, FactInRange, IsFilled}
 use Rattle.rh_rule_text.proofs.Each.{each_passes, each_both, filled}
 use Rattle.rh_rule_text.proofs.Prints.{Prints, Exactly, Always, Ends, tells, behind, fixed_behind, fixed_before, anywhere}
 use Rattle.rh_rule_text.proofs.FixedTexts.{ampersand_text, star_text, same_text, differ_text, number_text, pointer_text, unaliased_text, and_text, fact_word_text, means_text, semicolon_text}

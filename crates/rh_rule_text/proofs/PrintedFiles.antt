@@ -5,18 +5,18 @@ use Rattle.rh_text.proofs.Printing.{told}
 use Rattle.rh_rule.specs.declared.schema.Schema.{Schema}
 use Rattle.rh_rule.specs.declared.rule.Rule.{Rule}
 use Rattle.rh_rule.specs.RuleFiles.{Rules}
-use Rattle.rh_rule_text.specs.declared.word.Word.{Word}
-use Rattle.rh_rule_text.specs.declared.word.Word.TheVariants.{Fixed, Number}
-use Rattle.rh_rule_text.specs.declared.source.SourceFact.{SourceFact}
-use Rattle.rh_rule_text.specs.declared.source.SourceRule.{SourceRule}
-use Rattle.rh_rule_text.specs.declared.source.SourceFile.{SourceFile}
-use Rattle.rh_rule_text.specs.Grammar.{RHODIUM, SEMICOLON}
-use Rattle.rh_rule_text.specs.Source.{fact_words, rule_words, file_words}
+use Rattle.rh_rule_source.specs.declared.word.Word.{Word}
+use Rattle.rh_rule_source.specs.declared.word.Word.TheVariants.{Fixed, Number}
+use Rattle.rh_rule_source.specs.declared.source.SourceFact.{SourceFact}
+use Rattle.rh_rule_source.specs.declared.source.SourceRule.{SourceRule}
+use Rattle.rh_rule_source.specs.declared.source.SourceFile.{SourceFile}
+use Rattle.rh_rule_source.specs.Grammar.{RHODIUM, SEMICOLON}
+use Rattle.rh_rule_source.specs.Source.{fact_words, rule_words, file_words}
 use Rattle.rh_rule_text.specs.Resolve.{schema_of, rule_of, rules_of, fact_names, file_schemas, file_rules}
 use Rattle.rh_rule_text.specs.Unknown.{unknown_fact, unknown_rule, unknown_item, unknown_name, first_of}
 use Rattle.rh_rule_text.specs.Text.{schema_text, rule_text, file_text}
 use Rattle.rh_rule_text.specs.Reading.{resolved}
-use Rattle.rh_rule_text.proofs.SourceInRange.{InRange, FactInRange, RuleInRange}
+use Rattle.rh_rule_source.proofs.SourceInRange.{InRange, FactInRange, RuleInRange}
 use Rattle.rh_rule_text.proofs.Prints.{Prints, Always, tells, behind, fixed_before}
 use Rattle.rh_rule_text.proofs.FixedTexts.{header_text}
 use Rattle.rh_rule_text.proofs.Tells.{Tells, Repeated, repeated_printed}

@@ -9,18 +9,18 @@ use Rattle.rh_rule.specs.declared.rule.Form.TheVariants.{Entry as EntryForm, Got
 use Rattle.rh_rule.specs.Numbers.{is_below, are_below}
 use Rattle.rh_rule.specs.Operands.{operands, is_wild}
 use Rattle.rh_rule.specs.Shapes.{is_pattern, is_statement}
-use Rattle.rh_rule_text.specs.declared.word.Word.{Word}
-use Rattle.rh_rule_text.specs.declared.word.Word.TheVariants.{Fixed, Upper}
-use Rattle.rh_rule_text.specs.declared.source.SourceRight.TheVariants.{Any, New, Address as AddressRight, Load, Call, Plain as PlainRight, Compute as ComputedRight}
-use Rattle.rh_rule_text.specs.declared.source.SourceForm.TheVariants.{Skip, Write, If, Return, Assign}
-use Rattle.rh_rule_text.specs.declared.source.SourcePattern.TheVariants.{Entry, Goto, Form}
-use Rattle.rh_rule_text.specs.Grammar.{BECOMES, STAR}
-use Rattle.rh_rule_text.specs.Source.{operand_words, right_words, form_words, pattern_words}
+use Rattle.rh_rule_source.specs.declared.word.Word.{Word}
+use Rattle.rh_rule_source.specs.declared.word.Word.TheVariants.{Fixed, Upper}
+use Rattle.rh_rule_source.specs.declared.source.SourceRight.TheVariants.{Any, New, Address as AddressRight, Load, Call, Plain as PlainRight, Compute as ComputedRight}
+use Rattle.rh_rule_source.specs.declared.source.SourceForm.TheVariants.{Skip, Write, If, Return, Assign}
+use Rattle.rh_rule_source.specs.declared.source.SourcePattern.TheVariants.{Entry, Goto, Form}
+use Rattle.rh_rule_source.specs.Grammar.{BECOMES, STAR}
+use Rattle.rh_rule_source.specs.Source.{operand_words, right_words, form_words, pattern_words}
 use Rattle.rh_rule_text.specs.Resolve.{place_of, rule_operand, rule_base, assigned, rule_form, rule_pattern}
 use Rattle.rh_rule_text.specs.Unknown.{unknown, unknown_operand, unknown_right, unknown_form, unknown_pattern}
 use Rattle.rh_rule_text.specs.Text.{to_text, form_text, operand_text, param_name}
 use Rattle.rh_rule_text.specs.Ranges.{NumberFits, NumbersFit}
-use Rattle.rh_rule_text.proofs.SourceInRange.{OperandInRange, RightInRange, FormInRange, PatternInRange}
+use Rattle.rh_rule_source.proofs.SourceInRange.{OperandInRange, RightInRange, FormInRange, PatternInRange}
 use Rattle.rh_rule_text.proofs.Each.{not_true}
 use Rattle.rh_rule_text.proofs.Prints.{Prints, Exactly, Always, Ends, tells, as_text, behind, fixed_behind, fixed_before, anywhere}
 use Rattle.rh_rule_text.proofs.FixedTexts.{ampersand_text, star_text, underscore_text, becomes_text, call_text, new_text, if_text, return_text, skip_text, goto_text, entry_text}

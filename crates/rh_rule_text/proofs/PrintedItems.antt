@@ -3,17 +3,17 @@ use Rattle.std.proofs.Common.{◌≡◌, ℕ, List, [], ◌∷◌, ◌++◌, map
 use Rattle.std.specs.List.{flat_map, AllByRecursion}
 use Rattle.rh_rule.specs.declared.schema.Schema.{Schema}
 use Rattle.rh_rule.specs.declared.rule.Rule.{Rule}
-use Rattle.rh_rule_text.specs.declared.word.Word.{Word}
-use Rattle.rh_rule_text.specs.declared.source.SourceFact.{SourceFact}
-use Rattle.rh_rule_text.specs.declared.source.SourceRule.{SourceRule}
-use Rattle.rh_rule_text.specs.declared.source.SourceItem.{SourceItem}
-use Rattle.rh_rule_text.specs.declared.source.SourceItem.TheVariants.{Fact as FactItem, Rule as RuleItem}
-use Rattle.rh_rule_text.specs.Source.{fact_words, rule_words, item_words}
+use Rattle.rh_rule_source.specs.declared.word.Word.{Word}
+use Rattle.rh_rule_source.specs.declared.source.SourceFact.{SourceFact}
+use Rattle.rh_rule_source.specs.declared.source.SourceRule.{SourceRule}
+use Rattle.rh_rule_source.specs.declared.source.SourceItem.{SourceItem}
+use Rattle.rh_rule_source.specs.declared.source.SourceItem.TheVariants.{Fact as FactItem, Rule as RuleItem}
+use Rattle.rh_rule_source.specs.Source.{fact_words, rule_words, item_words}
 use Rattle.rh_rule_text.specs.Resolve.{schema_of, rule_of, fact_names, schemas_of, rules_of}
 use Rattle.rh_rule_text.specs.Unknown.{unknown_fact, unknown_rule, unknown_item, first_of}
-use Rattle.rh_rule_text.proofs.SourceInRange.{FactInRange, RuleInRange, ItemInRange}
+use Rattle.rh_rule_source.proofs.SourceInRange.{FactInRange, RuleInRange, ItemInRange}
 use Rattle.rh_rule_text.proofs.Tells.{both_known}
-use Rattle.rh_rule_text.proofs.DistinctNames.{none_parts}
+use Rattle.rh_il.proofs.Passed.{none_parts}
 
 -- all facts, and then all rules
 abbrev pub items_of : List SourceFact → List SourceRule → List SourceItem

@@ -13,13 +13,13 @@ use Rattle.rh_text.specs.Pieces.{is_word_byte, Word, Digits, Mark, IsWord}
 use Rattle.rh_text.proofs.Printing.{word_piece, number_piece, sign_piece, decimal_value-decimal}
 use Rattle.rh_il.specs.Name.{is_name, is_upper_name, is_lower_name, is_word_byte as is_name_byte}
 use Rattle.rh_rule.specs.Words.{is_proper}
-use Rattle.rh_rule_text.specs.declared.word.Spelled.{Spelled}
-use Rattle.rh_rule_text.specs.declared.word.Word.{Word as TextWord}
-use Rattle.rh_rule_text.specs.declared.word.Word.TheVariants.{Fixed, Lower, Upper, Number}
-use Rattle.rh_rule_text.specs.Words.{said, name_word, word_class}
-use Rattle.rh_rule_text.specs.Source.{number_words}
+use Rattle.rh_rule_source.specs.declared.word.Spelled.{Spelled}
+use Rattle.rh_rule_source.specs.declared.word.Word.{Word as TextWord}
+use Rattle.rh_rule_source.specs.declared.word.Word.TheVariants.{Fixed, Lower, Upper, Number}
+use Rattle.rh_rule_source.specs.Words.{said, name_word, word_class}
+use Rattle.rh_rule_source.specs.Source.{number_words}
 use Rattle.rh_rule_text.specs.Resolve.{number_of}
-use Rattle.rh_rule_text.proofs.SourceInRange.{NumberInRange}
+use Rattle.rh_rule_source.proofs.SourceInRange.{NumberInRange}
 use Rattle.rh_rule_text.proofs.Prints.{Prints, Ends}
 
 -- ---- names

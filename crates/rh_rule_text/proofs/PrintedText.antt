@@ -5,14 +5,15 @@ use Rattle.rh_text.proofs.Printing.{told, tokens_tell, printed_tokens}
 use Rattle.rh_grammar.specs.Derivation.{Derivable}
 use Rattle.rh_rule.specs.Checks.{file_fault}
 use Rattle.rh_rule.specs.RuleFiles.{Rules, IsRuleFile}
-use Rattle.rh_rule_text.specs.declared.word.Word.{Word}
-use Rattle.rh_rule_text.specs.Grammar.{productions, file}
-use Rattle.rh_rule_text.specs.Words.{said, word_of, class_of}
-use Rattle.rh_rule_text.specs.Source.{file_words}
+use Rattle.rh_rule_source.specs.declared.word.Word.{Word}
+use Rattle.rh_rule_source.specs.Grammar.{productions, file}
+use Rattle.rh_rule_source.specs.Words.{said, word_of, class_of}
+use Rattle.rh_rule_source.specs.Source.{file_words}
+use Rattle.rh_rule_source.specs.Spelling.{Spells}
 use Rattle.rh_rule_text.specs.Text.{file_text}
 use Rattle.rh_rule_text.specs.Ranges.{FileNumbersFit}
-use Rattle.rh_rule_text.specs.Reading.{Spells, IsText}
-use Rattle.rh_rule_text.proofs.DerivedRules.{words_are_derivable}
+use Rattle.rh_rule_text.specs.Reading.{IsText}
+use Rattle.rh_rule_source.proofs.DerivedRules.{words_are_derivable}
 use Rattle.rh_rule_text.proofs.Prints.{Prints, Always}
 use Rattle.rh_rule_text.proofs.PrintedFiles.{TellsFile, file_printed}
 use Rattle.rh_rule_text.proofs.Printable.{file_fits}
@@ -27,8 +28,10 @@ spells text rules prints =
     record {
       tokens = tokens;
       are_tokens = subst (λ (t : List ℕ). AreTokens t tokens) prints.spells (printed_tokens prints.pieces (prints.are [] tt));
-      derivable = subst (λ (words : List Word). Derivable productions file (map class_of words)) (sym words) (words_are_derivable tells.source tells.in_range);
-      words = words;
+      words = record {
+        derivable = subst (λ (words : List Word). Derivable productions file (map class_of words)) (sym words) (words_are_derivable tells.source tells.in_range);
+        same = words;
+      };
     }
 
 is_text : (text : List ℕ) (rules : Rules) → Prints Always text (TellsFile rules) → file_fault rules.schemas rules.rules ≡ None → IsText text rules

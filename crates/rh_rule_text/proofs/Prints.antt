@@ -4,8 +4,8 @@ use Rattle.std.proofs.lemmas.Grind.{flat_map-append}
 use Rattle.std.specs.List.{flat_map}
 use Rattle.rh_text.specs.Pieces.{is_word_byte, Piece, spelled, Stops, ArePieces}
 use Rattle.rh_text.proofs.Printing.{told, told_append, are_pieces_append}
-use Rattle.rh_rule_text.specs.declared.word.Word.{Word}
-use Rattle.rh_rule_text.specs.Words.{said}
+use Rattle.rh_rule_source.specs.declared.word.Word.{Word}
+use Rattle.rh_rule_source.specs.Words.{said}
 
 -- whatever comes next
 abbrev pub Always : List ℕ → Type 0

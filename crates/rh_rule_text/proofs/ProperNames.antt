@@ -10,18 +10,18 @@ use Rattle.rh_text.specs.declared.token.TokenKind.TheVariants.{Lower as LowerKin
 use Rattle.rh_text.specs.Words.{spelling}
 use Rattle.rh_il.specs.Name.{is_upper_name}
 use Rattle.rh_rule.specs.Words.{is_proper, are_proper_params, schema_is_proper, rule_is_proper, are_proper}
-use Rattle.rh_rule_text.specs.declared.word.Word.{Word}
-use Rattle.rh_rule_text.specs.declared.word.Word.TheVariants.{Fixed, Lower, Upper}
-use Rattle.rh_rule_text.specs.declared.source.SourceParam.{SourceParam}
-use Rattle.rh_rule_text.specs.declared.source.SourceFact.{SourceFact}
-use Rattle.rh_rule_text.specs.declared.source.SourceRule.{SourceRule}
-use Rattle.rh_rule_text.specs.declared.source.SourceItem.{SourceItem}
-use Rattle.rh_rule_text.specs.declared.source.SourceItem.TheVariants.{Fact as FactItem, Rule as RuleItem}
-use Rattle.rh_rule_text.specs.declared.source.SourceFile.{SourceFile}
-use Rattle.rh_rule_text.specs.Grammar.{COMMA, SEMICOLON, CLOSE_PAREN, OPEN_BRACE, CLOSE_BRACE, MEANS}
-use Rattle.rh_rule_text.specs.Words.{said, word_of, name_word, word_class}
+use Rattle.rh_rule_source.specs.declared.word.Word.{Word}
+use Rattle.rh_rule_source.specs.declared.word.Word.TheVariants.{Fixed, Lower, Upper}
+use Rattle.rh_rule_source.specs.declared.source.SourceParam.{SourceParam}
+use Rattle.rh_rule_source.specs.declared.source.SourceFact.{SourceFact}
+use Rattle.rh_rule_source.specs.declared.source.SourceRule.{SourceRule}
+use Rattle.rh_rule_source.specs.declared.source.SourceItem.{SourceItem}
+use Rattle.rh_rule_source.specs.declared.source.SourceItem.TheVariants.{Fact as FactItem, Rule as RuleItem}
+use Rattle.rh_rule_source.specs.declared.source.SourceFile.{SourceFile}
+use Rattle.rh_rule_source.specs.Grammar.{COMMA, SEMICOLON, CLOSE_PAREN, OPEN_BRACE, CLOSE_BRACE, MEANS}
+use Rattle.rh_rule_source.specs.Words.{said, word_of, name_word, word_class}
 use Rattle.rh_rule_text.specs.Proper.{is_proper_word}
-use Rattle.rh_rule_text.specs.Source.{kind_word, param_words, params_words, atoms_words, fact_words, body_words, rule_words, item_words, header_words, file_words}
+use Rattle.rh_rule_source.specs.Source.{kind_word, param_words, params_words, atoms_words, fact_words, body_words, rule_words, item_words, header_words, file_words}
 use Rattle.rh_rule_text.specs.Resolve.{rule_param, schema_of, rule_of, rules_of, file_schemas}
 
 abbrev AreProper : List Word → Type 0

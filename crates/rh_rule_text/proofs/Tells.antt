@@ -2,10 +2,10 @@
 use Rattle.std.proofs.Common.{◌≡◌, ℕ, codes, List, [], ◌∷◌, ◌++◌, map, Option, None, ap, refl, sym, subst, append_assoc, ◌∙◌}
 use Rattle.std.specs.Option.{option_or}
 use Rattle.std.specs.List.{flat_map, AllByRecursion}
-use Rattle.rh_rule_text.specs.declared.word.Word.{Word}
-use Rattle.rh_rule_text.specs.declared.word.Word.TheVariants.{Fixed}
-use Rattle.rh_rule_text.specs.Grammar.{CLOSE_PAREN}
-use Rattle.rh_rule_text.specs.Source.{separated}
+use Rattle.rh_rule_source.specs.declared.word.Word.{Word}
+use Rattle.rh_rule_source.specs.declared.word.Word.TheVariants.{Fixed}
+use Rattle.rh_rule_source.specs.Grammar.{CLOSE_PAREN}
+use Rattle.rh_rule_source.specs.Source.{separated}
 use Rattle.rh_rule_text.specs.Text.{joined}
 use Rattle.rh_rule_text.specs.Unknown.{first_of}
 use Rattle.rh_rule_text.proofs.Prints.{Prints, Exactly, Always, Ends, tells, behind, fixed_before, fixed_behind, nothing, anywhere}

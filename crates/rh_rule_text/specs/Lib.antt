@@ -1,13 +1,7 @@
-pub mod Words
-pub mod Grammar
-pub mod Cursor
-pub mod Source
-pub mod Lists
 pub mod Resolve
 pub mod Unknown
 pub mod Reading
 pub mod Answer
-pub mod Header
 pub mod Proper
 pub mod Text
 pub mod Ranges

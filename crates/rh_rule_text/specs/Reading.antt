@@ -1,35 +1,23 @@
 -- What a byte list is a text of, and its one fault.
-use Rattle.std.specs.Prelude.{◌≡◌, ℕ, List, map, length, Some, None, slice_get}
+use Rattle.std.specs.Prelude.{◌≡◌, ℕ, List, length, Some, None, slice_get}
 use Rattle.std.specs.Option.{option_map_or}
 use Rattle.rh_text.specs.declared.token.Token.{Token}
 use Rattle.rh_text.specs.Pieces.{AreTokens, IsFirstFault}
-use Rattle.rh_grammar.specs.Derivation.{Derivable, IsSyntaxFault}
+use Rattle.rh_grammar.specs.Derivation.{IsSyntaxFault}
 use Rattle.rh_rule.specs.declared.fault.RuleFault.{RuleFault}
 use Rattle.rh_rule.specs.RuleFiles.{Rules}
 use Rattle.rh_rule.specs.Checks.{file_fault}
-use Rattle.rh_rule_text.specs.declared.source.SourceFile.{SourceFile}
+use Rattle.rh_rule_source.specs.declared.source.SourceFile.{SourceFile}
 use Rattle.rh_rule_text.specs.declared.fault.RulesFault.{RulesFault}
 use Rattle.rh_rule_text.specs.declared.fault.RulesFault.TheVariants.{Lex, Syntax, Unknown, Rules as WrongRules, NoMemory}
-use Rattle.rh_rule_text.specs.Grammar.{productions, file}
-use Rattle.rh_rule_text.specs.Words.{word_of, class_of}
-use Rattle.rh_rule_text.specs.Source.{file_words}
+use Rattle.rh_rule_source.specs.Grammar.{productions, file}
+use Rattle.rh_rule_source.specs.Spelling.{Spells, classes}
 use Rattle.rh_rule_text.specs.Resolve.{file_schemas, file_rules}
 use Rattle.rh_rule_text.specs.Unknown.{unknown_name}
-
--- the classes of the words that tokens say
-abbrev pub classes : List ℕ → List Token → List ℕ
-classes text tokens = map class_of (map (word_of text) tokens)
 
 -- the offset of the token at a place, or the length of the text past the last one
 abbrev pub offset_at : List ℕ → List Token → ℕ → ℕ
 offset_at text tokens place = option_map_or (λ t. t.start) (slice_get tokens place) (length text)
-
--- the tokens of the text derive a rule file by the grammar, and the words that they say are those of the source
-pub record Spells (text : List ℕ) (source : SourceFile) : Type 0 where
-  pub tokens : List Token
-  pub are_tokens : AreTokens text tokens
-  pub derivable : Derivable productions file (classes text tokens)
-  pub words : map (word_of text) tokens ≡ file_words source
 
 -- the schemas and the rules of a source
 abbrev pub resolved : SourceFile → Rules
@@ -84,13 +72,13 @@ LexFaultsAs text (WrongRules fault) = ⊥
 LexFaultsAs text NoMemory = Unit {0}
 
 -- the fault of the classes of tokens
-abbrev pub ParseFaultsAs : List ℕ → List Token → List ℕ → RulesFault → Type 0
-ParseFaultsAs text tokens classes (Lex fault) = ⊥
-ParseFaultsAs text tokens classes (Syntax offset) =
-    (place : ℕ) × IsSyntaxFault productions file classes place × (offset ≡ offset_at text tokens place)
-ParseFaultsAs text tokens classes (Unknown offset) = ⊥
-ParseFaultsAs text tokens classes (WrongRules fault) = ⊥
-ParseFaultsAs text tokens classes NoMemory = Unit {0}
+abbrev pub ParseFaultsAs : List ℕ → List Token → RulesFault → Type 0
+ParseFaultsAs text tokens (Lex fault) = ⊥
+ParseFaultsAs text tokens (Syntax offset) =
+    (place : ℕ) × IsSyntaxFault productions file (classes text tokens) place × (offset ≡ offset_at text tokens place)
+ParseFaultsAs text tokens (Unknown offset) = ⊥
+ParseFaultsAs text tokens (WrongRules fault) = ⊥
+ParseFaultsAs text tokens NoMemory = Unit {0}
 
 -- these are the schemas and the rules of the source
 pub record IsResolved (source : SourceFile) (rules : Rules) : Type 0 where

@@ -23,35 +23,35 @@ use Rattle.rh_rule.specs.declared.rule.Side.TheVariants.{Same as SameSide, Diffe
 use Rattle.rh_rule.specs.declared.rule.Conclusion.{Conclusion}
 use Rattle.rh_rule.specs.declared.rule.Conclusion.TheVariants.{Fact as ConcludesFact, Transform as ConcludesForm}
 use Rattle.rh_rule.specs.declared.rule.Rule.{Rule}
-use Rattle.rh_rule_text.specs.declared.word.Spelled.{Spelled}
-use Rattle.rh_rule_text.specs.declared.source.SourceBase.{SourceBase}
-use Rattle.rh_rule_text.specs.declared.source.SourceBase.TheVariants.{Named, Num}
-use Rattle.rh_rule_text.specs.declared.source.SourceOperand.{SourceOperand}
-use Rattle.rh_rule_text.specs.declared.source.SourceOperand.TheVariants.{Wild, Plain as PlainOperand}
-use Rattle.rh_rule_text.specs.declared.source.SourceParam.{SourceParam}
-use Rattle.rh_rule_text.specs.declared.source.Relation.{Relation}
-use Rattle.rh_rule_text.specs.declared.source.Relation.TheVariants.{Same, Differ}
-use Rattle.rh_rule_text.specs.declared.source.SourceTerm.{SourceTerm}
-use Rattle.rh_rule_text.specs.declared.source.SourceTerm.TheVariants.{Plain as PlainTerm, Address as AddressTerm, Deref, Compute as ComputedTerm}
-use Rattle.rh_rule_text.specs.declared.source.SourceAtom.{SourceAtom}
-use Rattle.rh_rule_text.specs.declared.source.SourceAtom.TheVariants.{IsNumber, IsPointer, Unaliased, Compare}
-use Rattle.rh_rule_text.specs.declared.source.SourceFact.{SourceFact}
-use Rattle.rh_rule_text.specs.declared.source.SourceRight.{SourceRight}
-use Rattle.rh_rule_text.specs.declared.source.SourceRight.TheVariants.{Any, New, Address as AddressRight, Load, Call, Plain as PlainRight, Compute as ComputedRight}
-use Rattle.rh_rule_text.specs.declared.source.SourceForm.{SourceForm}
-use Rattle.rh_rule_text.specs.declared.source.SourceForm.TheVariants.{Skip, Write, If, Return, Assign}
-use Rattle.rh_rule_text.specs.declared.source.SourcePattern.{SourcePattern}
-use Rattle.rh_rule_text.specs.declared.source.SourcePattern.TheVariants.{Entry, Goto, Form}
-use Rattle.rh_rule_text.specs.declared.source.SourceUse.{SourceUse}
-use Rattle.rh_rule_text.specs.declared.source.SourceSide.{SourceSide}
-use Rattle.rh_rule_text.specs.declared.source.SourceSide.TheVariants.{Plain as PlainSide, Compute as ComputedSide}
-use Rattle.rh_rule_text.specs.declared.source.SourceCond.{SourceCond}
-use Rattle.rh_rule_text.specs.declared.source.SourceCond.TheVariants.{Fact as FactCond, Side}
-use Rattle.rh_rule_text.specs.declared.source.SourceConclusion.{SourceConclusion}
-use Rattle.rh_rule_text.specs.declared.source.SourceConclusion.TheVariants.{Fact as FactConclusion, Transform}
-use Rattle.rh_rule_text.specs.declared.source.SourceRule.{SourceRule}
-use Rattle.rh_rule_text.specs.declared.source.SourceItem.{SourceItem}
-use Rattle.rh_rule_text.specs.declared.source.SourceItem.TheVariants.{Fact as FactItem, Rule as RuleItem}
+use Rattle.rh_rule_source.specs.declared.word.Spelled.{Spelled}
+use Rattle.rh_rule_source.specs.declared.source.SourceBase.{SourceBase}
+use Rattle.rh_rule_source.specs.declared.source.SourceBase.TheVariants.{Named, Num}
+use Rattle.rh_rule_source.specs.declared.source.SourceOperand.{SourceOperand}
+use Rattle.rh_rule_source.specs.declared.source.SourceOperand.TheVariants.{Wild, Plain as PlainOperand}
+use Rattle.rh_rule_source.specs.declared.source.SourceParam.{SourceParam}
+use Rattle.rh_rule_source.specs.declared.source.Relation.{Relation}
+use Rattle.rh_rule_source.specs.declared.source.Relation.TheVariants.{Same, Differ}
+use Rattle.rh_rule_source.specs.declared.source.SourceTerm.{SourceTerm}
+use Rattle.rh_rule_source.specs.declared.source.SourceTerm.TheVariants.{Plain as PlainTerm, Address as AddressTerm, Deref, Compute as ComputedTerm}
+use Rattle.rh_rule_source.specs.declared.source.SourceAtom.{SourceAtom}
+use Rattle.rh_rule_source.specs.declared.source.SourceAtom.TheVariants.{IsNumber, IsPointer, Unaliased, Compare}
+use Rattle.rh_rule_source.specs.declared.source.SourceFact.{SourceFact}
+use Rattle.rh_rule_source.specs.declared.source.SourceRight.{SourceRight}
+use Rattle.rh_rule_source.specs.declared.source.SourceRight.TheVariants.{Any, New, Address as AddressRight, Load, Call, Plain as PlainRight, Compute as ComputedRight}
+use Rattle.rh_rule_source.specs.declared.source.SourceForm.{SourceForm}
+use Rattle.rh_rule_source.specs.declared.source.SourceForm.TheVariants.{Skip, Write, If, Return, Assign}
+use Rattle.rh_rule_source.specs.declared.source.SourcePattern.{SourcePattern}
+use Rattle.rh_rule_source.specs.declared.source.SourcePattern.TheVariants.{Entry, Goto, Form}
+use Rattle.rh_rule_source.specs.declared.source.SourceUse.{SourceUse}
+use Rattle.rh_rule_source.specs.declared.source.SourceSide.{SourceSide}
+use Rattle.rh_rule_source.specs.declared.source.SourceSide.TheVariants.{Plain as PlainSide, Compute as ComputedSide}
+use Rattle.rh_rule_source.specs.declared.source.SourceCond.{SourceCond}
+use Rattle.rh_rule_source.specs.declared.source.SourceCond.TheVariants.{Fact as FactCond, Side}
+use Rattle.rh_rule_source.specs.declared.source.SourceConclusion.{SourceConclusion}
+use Rattle.rh_rule_source.specs.declared.source.SourceConclusion.TheVariants.{Fact as FactConclusion, Transform}
+use Rattle.rh_rule_source.specs.declared.source.SourceRule.{SourceRule}
+use Rattle.rh_rule_source.specs.declared.source.SourceItem.{SourceItem}
+use Rattle.rh_rule_source.specs.declared.source.SourceItem.TheVariants.{Fact as FactItem, Rule as RuleItem}
 
 -- the number of a name: the place of the first name that is spelled like it
 abbrev pub place_of : List (List ℕ) → Spelled → ℕ

@@ -3,33 +3,33 @@ use Rattle.std.specs.Prelude.{ℕ, List, [], ◌∷◌, Option, Some, None, if�
 use Rattle.std.specs.List.{flat_map, list_any}
 use Rattle.std.specs.Option.{option_or}
 use Rattle.std.specs.Str.{bytes_eq}
-use Rattle.rh_rule_text.specs.declared.word.Spelled.{Spelled}
-use Rattle.rh_rule_text.specs.declared.source.SourceBase.{SourceBase}
-use Rattle.rh_rule_text.specs.declared.source.SourceBase.TheVariants.{Named, Num}
-use Rattle.rh_rule_text.specs.declared.source.SourceOperand.{SourceOperand}
-use Rattle.rh_rule_text.specs.declared.source.SourceOperand.TheVariants.{Wild, Plain as PlainOperand}
-use Rattle.rh_rule_text.specs.declared.source.SourceOperation.{SourceOperation}
-use Rattle.rh_rule_text.specs.declared.source.SourceTerm.{SourceTerm}
-use Rattle.rh_rule_text.specs.declared.source.SourceTerm.TheVariants.{Plain as PlainTerm, Address as AddressTerm, Deref, Compute as ComputedTerm}
-use Rattle.rh_rule_text.specs.declared.source.SourceAtom.{SourceAtom}
-use Rattle.rh_rule_text.specs.declared.source.SourceAtom.TheVariants.{IsNumber, IsPointer, Unaliased, Compare}
-use Rattle.rh_rule_text.specs.declared.source.SourceFact.{SourceFact}
-use Rattle.rh_rule_text.specs.declared.source.SourceRight.{SourceRight}
-use Rattle.rh_rule_text.specs.declared.source.SourceRight.TheVariants.{Any, New, Address as AddressRight, Load, Call, Plain as PlainRight, Compute as ComputedRight}
-use Rattle.rh_rule_text.specs.declared.source.SourceForm.{SourceForm}
-use Rattle.rh_rule_text.specs.declared.source.SourceForm.TheVariants.{Skip, Write, If, Return, Assign}
-use Rattle.rh_rule_text.specs.declared.source.SourcePattern.{SourcePattern}
-use Rattle.rh_rule_text.specs.declared.source.SourcePattern.TheVariants.{Entry, Goto, Form}
-use Rattle.rh_rule_text.specs.declared.source.SourceUse.{SourceUse}
-use Rattle.rh_rule_text.specs.declared.source.SourceSide.{SourceSide}
-use Rattle.rh_rule_text.specs.declared.source.SourceSide.TheVariants.{Plain as PlainSide, Compute as ComputedSide}
-use Rattle.rh_rule_text.specs.declared.source.SourceCond.{SourceCond}
-use Rattle.rh_rule_text.specs.declared.source.SourceCond.TheVariants.{Fact as FactCond, Side}
-use Rattle.rh_rule_text.specs.declared.source.SourceConclusion.{SourceConclusion}
-use Rattle.rh_rule_text.specs.declared.source.SourceConclusion.TheVariants.{Fact as FactConclusion, Transform}
-use Rattle.rh_rule_text.specs.declared.source.SourceRule.{SourceRule}
-use Rattle.rh_rule_text.specs.declared.source.SourceItem.{SourceItem}
-use Rattle.rh_rule_text.specs.declared.source.SourceItem.TheVariants.{Fact as FactItem, Rule as RuleItem}
+use Rattle.rh_rule_source.specs.declared.word.Spelled.{Spelled}
+use Rattle.rh_rule_source.specs.declared.source.SourceBase.{SourceBase}
+use Rattle.rh_rule_source.specs.declared.source.SourceBase.TheVariants.{Named, Num}
+use Rattle.rh_rule_source.specs.declared.source.SourceOperand.{SourceOperand}
+use Rattle.rh_rule_source.specs.declared.source.SourceOperand.TheVariants.{Wild, Plain as PlainOperand}
+use Rattle.rh_rule_source.specs.declared.source.SourceOperation.{SourceOperation}
+use Rattle.rh_rule_source.specs.declared.source.SourceTerm.{SourceTerm}
+use Rattle.rh_rule_source.specs.declared.source.SourceTerm.TheVariants.{Plain as PlainTerm, Address as AddressTerm, Deref, Compute as ComputedTerm}
+use Rattle.rh_rule_source.specs.declared.source.SourceAtom.{SourceAtom}
+use Rattle.rh_rule_source.specs.declared.source.SourceAtom.TheVariants.{IsNumber, IsPointer, Unaliased, Compare}
+use Rattle.rh_rule_source.specs.declared.source.SourceFact.{SourceFact}
+use Rattle.rh_rule_source.specs.declared.source.SourceRight.{SourceRight}
+use Rattle.rh_rule_source.specs.declared.source.SourceRight.TheVariants.{Any, New, Address as AddressRight, Load, Call, Plain as PlainRight, Compute as ComputedRight}
+use Rattle.rh_rule_source.specs.declared.source.SourceForm.{SourceForm}
+use Rattle.rh_rule_source.specs.declared.source.SourceForm.TheVariants.{Skip, Write, If, Return, Assign}
+use Rattle.rh_rule_source.specs.declared.source.SourcePattern.{SourcePattern}
+use Rattle.rh_rule_source.specs.declared.source.SourcePattern.TheVariants.{Entry, Goto, Form}
+use Rattle.rh_rule_source.specs.declared.source.SourceUse.{SourceUse}
+use Rattle.rh_rule_source.specs.declared.source.SourceSide.{SourceSide}
+use Rattle.rh_rule_source.specs.declared.source.SourceSide.TheVariants.{Plain as PlainSide, Compute as ComputedSide}
+use Rattle.rh_rule_source.specs.declared.source.SourceCond.{SourceCond}
+use Rattle.rh_rule_source.specs.declared.source.SourceCond.TheVariants.{Fact as FactCond, Side}
+use Rattle.rh_rule_source.specs.declared.source.SourceConclusion.{SourceConclusion}
+use Rattle.rh_rule_source.specs.declared.source.SourceConclusion.TheVariants.{Fact as FactConclusion, Transform}
+use Rattle.rh_rule_source.specs.declared.source.SourceRule.{SourceRule}
+use Rattle.rh_rule_source.specs.declared.source.SourceItem.{SourceItem}
+use Rattle.rh_rule_source.specs.declared.source.SourceItem.TheVariants.{Fact as FactItem, Rule as RuleItem}
 use Rattle.rh_rule_text.specs.Resolve.{metas_of, fact_names}
 
 -- the first offset that parts have, in their order

@@ -8,12 +8,12 @@ ghost use Rattle.rh_rule_text.specs.Unknown.{first_of, unknown_fact, unknown_rul
 use crate::resolve::{
     conclusion_of, meaning, metas_of, premises, rule_params, rule_pattern, sides,
 };
-use crate::source::{SourceFact, SourceItem, SourceRule};
 use crate::unknown::{unknown_conclusion, unknown_in_atoms, unknown_in_conds, unknown_pattern};
 use rh_il::Name;
 use rh_il_text::Names;
 use rh_list::Items;
 use rh_rule::{Rule, Schema};
+use rh_rule_source::{SourceFact, SourceItem, SourceRule};
 use std::alloc::{AllocError, Global};
 
 fn schema_of(alloc: Global, fact: &SourceFact) -> Result<Schema, AllocError>

@@ -4,28 +4,23 @@ ghost use Rattle.std.specs.Prelude.{◌≡◌, ◌≢◌, ◌≤◌, ◌∷◌, 
 ghost use Rattle.std.specs.List.{All, list_all};
 ghost use Rattle.rh_text.specs.Pieces.{AreTokens};
 ghost use Rattle.rh_text.specs.Words.{IsTokenOf};
-ghost use Rattle.rh_grammar.specs.declared.grammar.Symbol.TheVariants.{Rule};
-ghost use Rattle.rh_grammar.specs.Derivation.{Derives};
 ghost use Rattle.rh_rule.specs.RuleFiles.{Rules};
 ghost use Rattle.rh_rule_text.specs.declared.fault.RulesFault.{RulesFault};
 ghost use Rattle.rh_rule_text.specs.declared.fault.RulesFault.TheVariants.{NoMemory};
 ghost use Rattle.rh_rule_text.specs.Answer.{IsAnswer, IsRefusal};
-ghost use Rattle.rh_rule_text.specs.Grammar.{productions, file};
-ghost use Rattle.rh_rule_text.specs.Words.{class_of, word_of};
+ghost use Rattle.rh_rule_source.specs.Words.{word_of};
 ghost use Rattle.rh_rule_text.specs.Proper.{is_proper_word};
-ghost use Rattle.rh_rule_text.specs.Source.{file_words};
+ghost use Rattle.rh_rule_source.specs.Source.{file_words};
+ghost use Rattle.rh_rule_source.specs.Spelling.{AreOf};
 ghost use Rattle.rh_rule_text.specs.Reading.{offset_at, IsText, FaultsAs, LexFaultsAs, ParseFaultsAs, IsResolved, ResolveFaultsAs};
 
-use crate::cursor::Cursor;
 use crate::fault::RulesFault;
 use crate::file::{facts_of, rules_of, schemas_of, unknown_in_items};
-use crate::grammar::{FILE, RULE_FILES};
-use crate::source::SourceFile;
-use crate::word::{Word, classes_of, words_of};
-use rh_grammar::{ParseFault, parse};
+use rh_grammar::ParseFault;
 use rh_rule::{RuleFault, RuleFile};
+use rh_rule_source::{SourceFile, source_of, words_of};
 use rh_text::{LexFault, TEXT_LIMIT, Token, tokens};
-use std::alloc::{AllocError, Global};
+use std::alloc::Global;
 
 pub(crate) fn tokens_of(alloc: Global, text: &[u8]) -> Result<Vec<Token>, RulesFault>
     requires { length text.now ≤ TEXT_LIMIT }
@@ -50,35 +45,19 @@ fn offset_at(text: &[u8], tokens: &[Token], place: usize) -> u32
     }
 }
 
-/// The productions by which words are a rule file, or the offset of the syntax fault.
-fn productions_of(
-    alloc: Global,
-    text: &[u8],
-    tokens: &[Token],
-    words: &[Word],
-) -> Result<Vec<u8>, RulesFault>
-    requires { length text.now ≤ TEXT_LIMIT }
-    ensures derives { IfOk result (λ taken. Derives productions (Rule file ∷ []) taken.items (map class_of words.now)) }
-    ensures fault { IfErr result (ParseFaultsAs text.now tokens.now (map class_of words.now)) }
+/// The source that the tokens of a text spell, or the offset of the syntax fault.
+fn source_in(alloc: Global, text: &[u8], tokens: &[Token]) -> Result<SourceFile, RulesFault>
+    requires short { length text.now ≤ TEXT_LIMIT }
+    requires tokens { All (IsTokenOf text.now) tokens.now }
+    ensures source { IfOk result (AreOf (map (word_of text.now) tokens.now)) }
+    ensures fault { IfErr result (ParseFaultsAs text.now tokens.now) }
 {
-    let classes = classes_of(alloc, words)?;
-    match parse(alloc, &RULE_FILES, FILE, classes.as_slice()) {
-        Ok(taken) => Ok(taken),
+    let words = words_of(alloc, text, tokens)?;
+    match source_of(alloc, words.as_slice()) {
+        Ok(source) => Ok(source),
         Err(ParseFault::Syntax(place)) => Err(RulesFault::Syntax(offset_at(text, tokens, place))),
         Err(ParseFault::NoMemory) => Err(RulesFault::NoMemory),
     }
-}
-
-/// The source that words spell.
-fn source_of(alloc: Global, taken: &[u8], words: &[Word]) -> Result<SourceFile, AllocError>
-    requires { Derives productions (Rule file ∷ []) taken.now (map class_of words.now) }
-    ensures { IfOk result (λ source. words.now ≡ file_words source) }
-{
-    let mut cursor = Cursor {
-        productions: taken,
-        words,
-    };
-    cursor.file(alloc)
 }
 
 /// The rule file of a source.
@@ -108,9 +87,7 @@ fn rules_in(alloc: Global, src: &[u8]) -> Result<RuleFile, RulesFault>
     ensures fault { IfErr result (FaultsAs src.now) }
 {
     let tokens = tokens_of(alloc, src)?;
-    let words = words_of(alloc, src, tokens.as_slice())?;
-    let taken = productions_of(alloc, src, tokens.as_slice(), words.as_slice())?;
-    let source = source_of(alloc, taken.as_slice(), words.as_slice())?;
+    let source = source_in(alloc, src, tokens.as_slice())?;
     resolved(alloc, &source)
 }
 

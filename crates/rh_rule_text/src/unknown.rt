@@ -3,12 +3,11 @@
 ghost use Rattle.std.specs.Prelude.{◌≡◌};
 ghost use Rattle.rh_rule_text.specs.Unknown.{first_of, unknown, unknown_base, unknown_operand, unknown_operation, unknown_term, unknown_atom, unknown_right, unknown_form, unknown_pattern, unknown_use, unknown_side, unknown_cond, unknown_conclusion};
 
-use crate::source::{
-    SourceAtom, SourceBase, SourceConclusion, SourceCond, SourceForm, SourceOperand,
-    SourceOperation, SourcePattern, SourceRight, SourceSide, SourceTerm, SourceUse,
-};
-use crate::word::Spelled;
 use rh_il_text::Names;
+use rh_rule_source::{
+    SourceAtom, SourceBase, SourceConclusion, SourceCond, SourceForm, SourceOperand,
+    SourceOperation, SourcePattern, SourceRight, SourceSide, SourceTerm, SourceUse, Spelled,
+};
 
 /// The offset of a name, if it is not declared.
 fn unknown(names: &Names, spelled: Spelled) -> Option<u32>

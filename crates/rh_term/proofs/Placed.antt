@@ -1,29 +1,14 @@
 -- The place of a term is where it stands.
-use Rattle.std.proofs.Common.{◌≡◌, ◌≢◌, ℕ, zero, suc, Bool, true, false, ◌&&◌, ◌==◌, List, [], ◌∷◌, Option, Some, None, slice_get, refl, ap, sym, subst, ◌∙◌, inl, inr}
+use Rattle.std.proofs.Common.{◌≡◌, ◌≢◌, ℕ, zero, suc, true, ◌&&◌, ◌==◌, List, [], ◌∷◌, Option, Some, None, slice_get, refl, ap, sym, subst, ◌∙◌, inl, inr}
 use Rattle.std.specs.Option.{option_map, IfSome, IfNone}
-use Rattle.std.proofs.lemmas.Bool.{and_parts, and_from, eqb-true, eq-eqb, cases_Bool, cond-true, cond-false, both_ways}
+use Rattle.std.proofs.lemmas.Bool.{and_parts, and_from, eqb-true, eq-eqb, cases_Bool, cond-true, cond-false}
 use Rattle.std.proofs.lemmas.Bool.Decides.{Decides-int_eq}
-use Rattle.rh_il.specs.declared.value.Op.{Op as Operator}
-use Rattle.rh_il.specs.declared.value.Op.TheVariants.{Add, Sub, Mul, Less, Equal}
+use Rattle.rh_il.specs.Op.{op_eq}
+use Rattle.rh_il.proofs.Operators.{op_eq-true, op_eq-refl}
 use Rattle.rh_term.specs.declared.term.Term.{Term}
 use Rattle.rh_term.specs.declared.term.Term.TheVariants.{Num, Cst, Addr, Any, Fresh, Answer, Before, After, Start, Sel, Upd, Op, Kind, IsNum, IsPtr, Una, Yes}
-use Rattle.rh_term.specs.Place.{same_operator, same_term, place_in}
+use Rattle.rh_term.specs.Place.{same_term, place_in}
 use Rattle.rh_term.specs.Term.{IsTermList}
-
-pub same_operator-true : (o p : Operator) → same_operator o p ≡ true → o ≡ p
-same_operator-true Add Add e = refl
-same_operator-true Sub Sub e = refl
-same_operator-true Mul Mul e = refl
-same_operator-true Less Less e = refl
-same_operator-true Equal Equal e = refl
-same_operator-true _ _ e = cc
-
-same_operator-refl : (o : Operator) → same_operator o o ≡ true
-same_operator-refl Add = refl
-same_operator-refl Sub = refl
-same_operator-refl Mul = refl
-same_operator-refl Less = refl
-same_operator-refl Equal = refl
 
 two : (a b c d : ℕ) → (a == c && b == d) ≡ true → (a ≡ c) × (b ≡ d)
 two a b c d e = let parts = and_parts (a == c) (b == d) e in (eqb-true a c parts.0, eqb-true b d parts.1)
@@ -44,9 +29,9 @@ same_term-true (Upd s a v) (Upd t b w) e =
     let k = two a v b w h.1 in
     let f : s ≡ t = eqb-true s t h.0 in let g : a ≡ b = k.0 in let i : v ≡ w = k.1 in cc
 same_term-true (Op o a b) (Op p c d) e =
-    let h = and_parts (same_operator o p) (a == c && b == d) e in
+    let h = and_parts (op_eq o p) (a == c && b == d) e in
     let k = two a b c d h.1 in
-    let f : o ≡ p = same_operator-true o p h.0 in let g : a ≡ c = k.0 in let i : b ≡ d = k.1 in cc
+    let f : o ≡ p = op_eq-true o p h.0 in let g : a ≡ c = k.0 in let i : b ≡ d = k.1 in cc
 same_term-true (Kind a) (Kind b) e = ap Kind (eqb-true a b e)
 same_term-true IsNum IsNum e = refl
 same_term-true IsPtr IsPtr e = refl
@@ -66,7 +51,7 @@ same_term-refl After = refl
 same_term-refl Start = refl
 same_term-refl (Sel s a) = and_from _ _ (eq-eqb s s refl) (eq-eqb a a refl)
 same_term-refl (Upd s a v) = and_from _ _ (eq-eqb s s refl) (and_from _ _ (eq-eqb a a refl) (eq-eqb v v refl))
-same_term-refl (Op o a b) = and_from _ _ (same_operator-refl o) (and_from _ _ (eq-eqb a a refl) (eq-eqb b b refl))
+same_term-refl (Op o a b) = and_from _ _ (op_eq-refl o) (and_from _ _ (eq-eqb a a refl) (eq-eqb b b refl))
 same_term-refl (Kind a) = eq-eqb a a refl
 same_term-refl IsNum = refl
 same_term-refl IsPtr = refl

@@ -1,20 +1,10 @@
 -- The place of a term in a list.
-use Rattle.std.specs.Prelude.{ℕ, zero, suc, Bool, true, false, ◌&&◌, ◌==◌, List, [], ◌∷◌, Option, Some, None, if◌then◌else◌}
+use Rattle.std.specs.Prelude.{ℕ, suc, Bool, true, false, ◌&&◌, ◌==◌, List, [], ◌∷◌, Option, Some, None, if◌then◌else◌}
 use Rattle.std.specs.Ordering.{int_eq}
 use Rattle.std.specs.Option.{option_map}
-use Rattle.rh_il.specs.declared.value.Op.{Op as Operator}
-use Rattle.rh_il.specs.declared.value.Op.TheVariants.{Add, Sub, Mul, Less, Equal}
+use Rattle.rh_il.specs.Op.{op_eq}
 use Rattle.rh_term.specs.declared.term.Term.{Term}
 use Rattle.rh_term.specs.declared.term.Term.TheVariants.{Num, Cst, Addr, Any, Fresh, Answer, Before, After, Start, Sel, Upd, Op, Kind, IsNum, IsPtr, Una, Yes}
-
--- the operators are one
-abbrev pub same_operator : Operator → Operator → Bool
-same_operator Add Add = true
-same_operator Sub Sub = true
-same_operator Mul Mul = true
-same_operator Less Less = true
-same_operator Equal Equal = true
-same_operator _ _ = false
 
 -- the terms are one
 abbrev pub same_term : Term → Term → Bool
@@ -29,7 +19,7 @@ same_term After After = true
 same_term Start Start = true
 same_term (Sel s a) (Sel t b) = s == t && a == b
 same_term (Upd s a v) (Upd t b w) = s == t && (a == b && v == w)
-same_term (Op o a b) (Op p c d) = same_operator o p && (a == c && b == d)
+same_term (Op o a b) (Op p c d) = op_eq o p && (a == c && b == d)
 same_term (Kind a) (Kind b) = a == b
 same_term IsNum IsNum = true
 same_term IsPtr IsPtr = true

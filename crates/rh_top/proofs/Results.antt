@@ -3,11 +3,13 @@ use Rattle.std.proofs.Common.{ℕ, zero, suc, ◌≡◌, Bool, true, false, ◌&
 use Rattle.std.proofs.lemmas.Bool.{and_parts, eqb-true}
 use Rattle.std.specs.List.{AllZip, list_all}
 use Rattle.std.specs.Prelude.{IfOk, slice_get}
+use Rattle.rh_list.specs.Each.{Each}
 use Rattle.rh_admit.specs.Rules.{IsTold}
 use Rattle.rh_il.specs.declared.program.Proc.{Proc}
 use Rattle.rh_il.specs.declared.program.Stmt.{Stmt}
 use Rattle.rh_il.specs.declared.program.Stmt.TheVariants.{Skip, Copy, Address, Load, Compute, Write, New, Call, Goto, If, Return}
 use Rattle.rh_il.specs.Checks.{IsProgram}
+use Rattle.rh_il.specs.Numbers.{HasNumbers}
 use Rattle.rh_log.specs.declared.log.Admission.{Admission}
 use Rattle.rh_log.specs.Admission.{ruling_of}
 use Rattle.rh_oblig.specs.Ruling.{IsRuling}
@@ -31,8 +33,6 @@ use Rattle.rh_rule.specs.declared.schema.Param.{Param}
 use Rattle.rh_rule.specs.declared.schema.Schema.{Schema}
 use Rattle.rh_rule.specs.Kinds.{is_var_kind}
 use Rattle.rh_rule.specs.RuleFiles.{Rules, IsRuleFile}
-use Rattle.rh_ground.specs.Constants.{HasNumbers}
-use Rattle.rh_ground.specs.Each.{Each}
 use Rattle.rh_ground.specs.Search.{AreVars}
 use Rattle.rh_transform.specs.Bare.{IsBare}
 use Rattle.rh_transform.proofs.FromFiles.{bare_rules}

@@ -4,8 +4,9 @@ use Rattle.rh_args.specs.Forms.{is_accepted}
 use Rattle.rh_il.specs.declared.program.Proc.{Proc}
 use Rattle.rh_il_text.specs.Program.{IsText as IsProgramText}
 use Rattle.rh_rule.specs.RuleFiles.{Rules}
-use Rattle.rh_rule_text.specs.declared.source.SourceFile.{SourceFile}
-use Rattle.rh_rule_text.specs.Reading.{IsText as IsRulesText, Spells}
+use Rattle.rh_rule_source.specs.declared.source.SourceFile.{SourceFile}
+use Rattle.rh_rule_source.specs.Spelling.{Spells}
+use Rattle.rh_rule_text.specs.Reading.{IsText as IsRulesText}
 use Rattle.rh_top.specs.Stage.{is_built_file, is_built_program}
 
 -- the words are `opt RULES PROG`

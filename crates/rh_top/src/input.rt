@@ -1,7 +1,7 @@
 //! Reading the two files.
 ghost use Rattle.std.specs.Prelude.{ℕ, ◌≡◌, ◌≤◌, true, List, length, IfOk, IfErr, IfSome};
-ghost use Rattle.rh_rule_text.specs.declared.source.SourceFile.{SourceFile};
-ghost use Rattle.rh_rule_text.specs.Reading.{Spells};
+ghost use Rattle.rh_rule_source.specs.declared.source.SourceFile.{SourceFile};
+ghost use Rattle.rh_rule_source.specs.Spelling.{Spells};
 ghost use Rattle.rh_top.specs.Input.{IsUnread, RefusesProgram, RefusesProgramIn, RefusesRules, RefusesRulesIn, of_program, of_rules, unbuilt};
 ghost use Rattle.rh_top.specs.Opt.{IsBuiltProgram, IsBuiltRules};
 ghost use Rattle.rh_top.specs.Stage.{is_built_file, is_built_program};

@@ -13,12 +13,12 @@ ghost use Rattle.rh_top.specs.Stage.{is_built_file, is_built_program};
 use crate::input::{program_in, rules_in};
 use crate::status::{Large, Status};
 use rh_admit::{AdmitFault, admit};
-use rh_il::Program;
+use rh_il::{Program, numbers_fit};
 use rh_log::Admission;
 use rh_outside::{Shelf, Sink, write_whole};
 use rh_report::report;
 use rh_rule::{RuleFile, Ruling};
-use rh_transform::{numbers_fit, rewrite};
+use rh_transform::rewrite;
 use std::alloc::{AllocError, Global};
 
 fn rulings_of(alloc: Global, admissions: &[Admission]) -> Result<Vec<Ruling>, AllocError>

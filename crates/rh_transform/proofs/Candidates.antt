@@ -3,6 +3,7 @@ use Rattle.std.proofs.Common.{ℕ, suc, ◌≡◌, true, false, List, [], ◌∷
 use Rattle.std.specs.Option.{option_map, option_map_or, option_and_then}
 use Rattle.std.specs.Prelude.{slice_get}
 use Rattle.std.proofs.lemmas.Bool.{and_parts}
+use Rattle.rh_list.specs.Each.{Each}
 use Rattle.rh_il.specs.declared.program.Node.{Node}
 use Rattle.rh_il.specs.declared.program.Node.TheVariants.{Entry, At}
 use Rattle.rh_il.specs.declared.program.Proc.{Proc}
@@ -19,13 +20,10 @@ use Rattle.rh_ground.specs.Binding.{bindings}
 use Rattle.rh_ground.specs.Facts.{Known}
 use Rattle.rh_ground.specs.Match.{matches, template_under}
 use Rattle.rh_transform.specs.Rewritten.{Candidate, candidates_of, candidates, is_applicable, first_applicable, rewritten_statement, rewritten_body}
-use Rattle.rh_ground.specs.Each.{Each}
 use Rattle.rh_ground.specs.Template.{IsTemplateOf}
 use Rattle.rh_ground.proofs.Members.{IsItem, item_of_append, item_of_map, found_item, read_all_numbered}
 use Rattle.rh_ground.proofs.Shapes.{shape_of, shape_target, target_by_shape, shape_kept}
 use Rattle.rh_transform.specs.Bare.{IsBare}
-use Rattle.rh_ground.specs.Template.{IsTemplateOf}
-use Rattle.rh_ground.specs.Each.{Each}
 
 -- where a candidate is from
 pub record IsFrom (proc : Proc) (rules : List Rule) (rulings : List Ruling) (candidate : Candidate) : Type 0 where

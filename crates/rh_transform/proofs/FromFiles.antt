@@ -4,6 +4,7 @@ use Rattle.std.proofs.lemmas.Bool.{and_parts}
 use Rattle.std.specs.List.{AllByRecursion}
 use Rattle.std.specs.Option.{option_map_or}
 use Rattle.std.specs.Prelude.{slice_get}
+use Rattle.rh_list.specs.Each.{Each}
 use Rattle.rh_rule.specs.declared.rule.Conclusion.TheVariants.{Transform}
 use Rattle.rh_rule.specs.declared.rule.Form.{Form}
 use Rattle.rh_rule.specs.declared.rule.Form.TheVariants.{Entry, Goto, Skip, AnyAssign, Assign, Address, Load, Compute, Write, New, Call, If, Return}
@@ -19,7 +20,6 @@ use Rattle.rh_rule.specs.Params.{kind_of}
 use Rattle.rh_rule.specs.RuleFiles.{IsRuleFile, RulePassed, Rules}
 use Rattle.rh_rule.specs.Shapes.{class_eq, class_of, conclusion_has_shape, has_wild, is_statement, may_replace}
 use Rattle.rh_rule.proofs.Passed.{rule_passed}
-use Rattle.rh_ground.specs.Each.{Each}
 use Rattle.rh_ground.specs.Search.{AreVars}
 use Rattle.rh_ground.specs.Template.{IsPlain, IsTame, IsTemplateOf}
 use Rattle.rh_transform.specs.Bare.{IsBare}

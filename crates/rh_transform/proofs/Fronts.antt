@@ -1,10 +1,6 @@
 -- What the front of a list has.
-use Rattle.std.proofs.Common.{ℕ, zero, suc, ◌≡◌, ◌<◌, List, [], ◌∷◌, length, Some, None, arith}
+use Rattle.std.proofs.Common.{ℕ, zero, suc, ◌≡◌, ◌<◌, List, [], ◌∷◌, length, None, arith}
 use Rattle.std.specs.Prelude.{slice_get}
-
--- each of the first items has the property
-abbrev pub EachBefore : {X : Type 0} → (X → Type 0) → List X → ℕ → Type 0
-EachBefore {X} P xs n = (i : ℕ) (x : X) → i < n → slice_get xs i ≡ Some x → P x
 
 -- something is within the list
 pub some_within : {X : Type 0} (xs : List X) (i : ℕ) → i < length xs → None ≡ slice_get xs i → ⊥

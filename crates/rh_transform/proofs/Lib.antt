@@ -1,4 +1,3 @@
-pub mod InRange
 pub mod Candidates
 pub mod Numbered
 pub mod Passing

@@ -1,11 +1,11 @@
 -- The procedures that a loop has made are the rewritten program.
 use Rattle.std.proofs.Common.{ℕ, ◌≡◌, ◌≤◌, true, List, length, take, refl, sym, subst, arith}
+use Rattle.rh_list.specs.Each.{Each}
 use Rattle.rh_il.specs.declared.program.Proc.{Proc}
 use Rattle.rh_il.specs.Checks.{IsProgram}
+use Rattle.rh_il.specs.Numbers.{HasNumbers}
 use Rattle.rh_rule.specs.declared.rule.Rule.{Rule}
 use Rattle.rh_rule.specs.declared.rule.Ruling.{Ruling}
-use Rattle.rh_ground.specs.Constants.{HasNumbers}
-use Rattle.rh_ground.specs.Each.{Each}
 use Rattle.rh_ground.specs.Facts.{Known}
 use Rattle.rh_transform.specs.Bare.{IsBare}
 use Rattle.rh_transform.specs.Rewritten.{rewritten, rewritten_proc}

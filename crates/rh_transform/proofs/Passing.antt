@@ -4,6 +4,7 @@ use Rattle.std.proofs.lemmas.Bool.{and_parts, lt-ltb}
 use Rattle.std.specs.List.{list_all, list_any}
 use Rattle.std.specs.Option.{option_map, option_map_or, option_and_then, option_or}
 use Rattle.std.specs.Prelude.{nat_le, nat_lt, slice_get}
+use Rattle.rh_list.specs.Each.{Each}
 use Rattle.rh_il.specs.declared.fault.Limited.TheVariants.{Procs, Stmts}
 use Rattle.rh_il.specs.declared.fault.ProgFault.{ProgFault}
 use Rattle.rh_il.specs.declared.fault.ProgWrong.{ProgWrong}
@@ -12,6 +13,9 @@ use Rattle.rh_il.specs.declared.program.Proc.{Proc}
 use Rattle.rh_il.specs.declared.program.Stmt.{Stmt}
 use Rattle.rh_il.specs.declared.program.Stmt.TheVariants.{Skip as ASkip, Copy as ACopy, Address as AnAddress, Load as ALoad, Compute as AComputation, Write as AWrite, New as ANew, Call as ACall, Goto as AGoto, If as AnIf, Return as AReturn}
 use Rattle.rh_il.specs.Checks.{IsProgram, first_some, has_numbers, has_proper_names, has_targets, is_base, is_called, is_closed, is_jump, is_new_proc_at, proc_fault, program_fault, stmt_fault, unless}
+use Rattle.rh_il.specs.Numbers.{HasNumbers}
+use Rattle.rh_il.proofs.Passed.{none_at, none_parts, passes}
+use Rattle.rh_il.proofs.ProcChecks.{checks_passed, ends, few_stmts, fault_at, new_vars, some_vars, stmts_pass}
 use Rattle.rh_rule.specs.declared.rule.Form.{Form}
 use Rattle.rh_rule.specs.declared.rule.Form.TheVariants.{Entry, Goto, Skip, AnyAssign, Assign, Address, Load, Compute, Write, New, Call, If, Return}
 use Rattle.rh_rule.specs.declared.rule.Rule.{Rule}
@@ -20,11 +24,9 @@ use Rattle.rh_rule.specs.declared.schema.Kind.TheVariants.{Var as AVar}
 use Rattle.rh_rule.specs.declared.schema.Param.{Param}
 use Rattle.rh_rule.specs.Params.{kind_of}
 use Rattle.rh_ground.specs.Binding.{Binding, FitsBinding, base_under, variable_under}
-use Rattle.rh_ground.specs.Each.{Each}
 use Rattle.rh_ground.specs.Facts.{Known}
 use Rattle.rh_ground.specs.Match.{callee_of, matches, template_under}
 use Rattle.rh_ground.specs.Template.{IsPlain, IsTemplateOf}
-use Rattle.rh_ground.specs.Constants.{HasNumbers}
 use Rattle.rh_ground.proofs.Fitting.{binding_fits, operand_inside, variable_inside}
 use Rattle.rh_ground.proofs.Matched.{matched}
 use Rattle.rh_ground.proofs.Members.{read_all_numbered}
@@ -32,7 +34,6 @@ use Rattle.rh_ground.proofs.Shapes.{Shape, Jumping, Branching, Returning, shape_
 use Rattle.rh_transform.specs.Bare.{IsBare}
 use Rattle.rh_transform.specs.Rewritten.{Candidate, first_applicable, rewritten_statement, rewritten_body, rewritten_proc, rewritten}
 use Rattle.rh_transform.proofs.Candidates.{body_at, by_first, first_from, fit_of, pattern_is, shape_same}
-use Rattle.rh_transform.proofs.InRange.{ends, few_stmts, fault_at, new_vars, none_at, none_parts, passes, some_vars, stmts_pass}
 use Rattle.rh_transform.proofs.Numbered.{changed_all, changed_any, changed_front, changed_size}
 
 -- ---- statements
@@ -187,18 +188,15 @@ module _ (rules : List Rule) (rulings : List Ruling) (known : Known) (bare : Eac
   unfolding proc_fault
   proc_kept place procs proc fit passed =
       let new : Proc = rewritten_proc known rules rulings place proc in
-      let a = none_parts (some_vars place proc) (option_or (new_vars place proc) (option_or (few_stmts place proc) (option_or (stmts_pass procs place proc) (ends place proc)))) passed in
-      let b = none_parts (new_vars place proc) (option_or (few_stmts place proc) (option_or (stmts_pass procs place proc) (ends place proc))) a.1 in
-      let c = none_parts (few_stmts place proc) (option_or (stmts_pass procs place proc) (ends place proc)) b.1 in
-      let d = none_parts (stmts_pass procs place proc) (ends place proc) c.1 in
-      let few : few_stmts place new ≡ None = ap (λ n. unless (nat_le n 1024) (Limit Stmts) place 0) (body_size place proc) ∙ c.0 in
+      let before = checks_passed procs place proc passed in
+      let few : few_stmts place new ≡ None = ap (λ n. unless (nat_le n 1024) (Limit Stmts) place 0) (body_size place proc) ∙ before.short in
       let items : stmts_pass procs place new ≡ None =
       none_of (length new.body) (fault_at procs place new)
       (λ k below.
       ap (option_and_then (stmt_fault procs place new k)) (body_at rules rulings known bare place proc k)
-      ∙ item_kept place procs proc k (slice_get proc.body k) fit refl (none_at (length proc.body) (fault_at procs place proc) k d.0 (omega (arith, below, body_size place proc)))) in
-      let ended : ends place new ≡ None = ap (λ t. unless t FallsOff place (length new.body)) (closed_kept place proc) ∙ ap (λ n. unless (is_closed proc.body) FallsOff place n) (body_size place proc) ∙ d.1 in
-      none_both (some_vars place new) _ a.0 (none_both (new_vars place new) _ b.0 (none_both (few_stmts place new) _ few (none_both (stmts_pass procs place new) (ends place new) items ended)))
+      ∙ item_kept place procs proc k (slice_get proc.body k) fit refl (none_at (length proc.body) (fault_at procs place proc) k before.stmts (omega (arith, below, body_size place proc)))) in
+      let ended : ends place new ≡ None = ap (λ t. unless t FallsOff place (length new.body)) (closed_kept place proc) ∙ ap (λ n. unless (is_closed proc.body) FallsOff place n) (body_size place proc) ∙ before.closed in
+      none_both (some_vars place new) _ before.vars (none_both (new_vars place new) _ before.names (none_both (few_stmts place new) _ few (none_both (stmts_pass procs place new) (ends place new) items ended)))
 
   module _ (procs : List Proc) (program : IsProgram procs) (fit : Each HasNumbers procs) where
     abbrev change : ℕ → Proc → Proc

@@ -1,12 +1,12 @@
 -- The program that rules rewrite is a program.
 use Rattle.std.specs.Prelude.{List}
+use Rattle.rh_list.specs.Each.{Each}
 use Rattle.rh_il.specs.declared.program.Proc.{Proc}
 use Rattle.rh_il.specs.Checks.{IsProgram}
+use Rattle.rh_il.specs.Numbers.{HasNumbers}
 use Rattle.rh_rule.specs.declared.rule.Rule.{Rule}
 use Rattle.rh_rule.specs.declared.rule.Ruling.{Ruling}
-use Rattle.rh_ground.specs.Each.{Each}
 use Rattle.rh_ground.specs.Facts.{Known}
-use Rattle.rh_ground.specs.Constants.{HasNumbers}
 use Rattle.rh_transform.specs.Bare.{IsBare}
 use Rattle.rh_transform.specs.Rewritten.{rewritten}
 

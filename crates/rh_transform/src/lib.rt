@@ -1,12 +1,10 @@
 //! Rewriting a program by the rules that are proved.
 #![tactic(auto)]
 
-mod numbers;
 mod rewriting;
 
 ghost use Rattle.rh_transform.specs.Laws.{RewrittenPasses};
 
-pub use numbers::numbers_fit;
 pub use rewriting::rewrite;
 
 /// The program that rules rewrite passes every check of a program. Shown for rules that speak of

@@ -2,16 +2,15 @@
 ghost use Rattle.std.specs.Prelude.{ℕ, ◌≡◌, ◌<◌, ◌≤◌, ◌^◌, Some, IfOk, length, map, slice_get};
 ghost use Rattle.std.specs.List.{enumerate_from};
 ghost use Rattle.std.specs.Option.{option_map};
+ghost use Rattle.rh_list.specs.Each.{Each};
 ghost use Rattle.rh_il.specs.Checks.{IsProgram};
-ghost use Rattle.rh_ground.specs.Each.{Each};
 ghost use Rattle.rh_ground.specs.Facts.{Known};
 ghost use Rattle.rh_ground.specs.Match.{template_under};
 ghost use Rattle.rh_transform.specs.Bare.{IsBare};
 ghost use Rattle.rh_transform.specs.Rewritten.{first_applicable, rewritten, rewritten_proc, rewritten_statement, template_of};
 
-use crate::numbers::numbers_fit;
 use rh_ground::{first_match, template_under};
-use rh_il::{Proc, Program, Stmt};
+use rh_il::{Proc, Program, Stmt, numbers_fit};
 use rh_list::Items;
 use rh_rule::{Arg, Conclusion, Form, Rule, Ruling};
 use std::alloc::{AllocError, Global};

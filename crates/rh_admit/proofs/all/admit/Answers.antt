@@ -1,4 +1,4 @@
-use Rattle.std.proofs.Common.{ℕ, ◌<◌, ◌^◌, List, length, sym, subst}
+use Rattle.std.proofs.Common.{◌<◌, ◌^◌, List, length, sym, subst}
 use Rattle.std.specs.List.{All}
 use Rattle.rh_rule.specs.declared.rule.Rule.{Rule}
 use Rattle.rh_admit.proofs.Small.{few_params, few_rules}

@@ -1,5 +1,6 @@
 use Rattle.std.proofs.Common.{◌≡◌, ◌+◌, ◌++◌, [], ◌∷◌, List, drop, take, get_or, sym, subst, ◌∙◌, ap}
 use Rattle.std.specs.List.{AllByRecursion, flat_map}
+use Rattle.rh_list.proofs.Appended.{apart}
 use Rattle.rh_oblig.specs.declared.literal.TreeLit.{TreeLit as BuiltLit}
 use Rattle.rh_oblig.specs.declared.hypotheses.TreeClause.{TreeClause as BuiltClause}
 use Rattle.rh_term.specs.declared.clause.Clause.{Clause}
@@ -7,7 +8,7 @@ use Rattle.rh_oblig.specs.Obligation.{clause_in, clauses_in}
 use Rattle.rh_oblig.specs.Sorts.{IsIn}
 use Rattle.rh_oblig.specs.TermList.{clause_trees, literal_trees}
 use Rattle.rh_oblig.specs.View.{clauses_of, lits_of}
-use Rattle.rh_oblig.proofs.Build.{clauses_cut, clauses_more, first_half, second_half}
+use Rattle.rh_oblig.proofs.Build.{clauses_cut, clauses_more}
 use Rattle.rh_oblig.proofs.obligation.clauses_in.Goals as goal
 
 pub clause_in-requires : goal.clause_in-requires
@@ -19,7 +20,7 @@ clause_in-requires c =
     let whole = subst (AllByRecursion (IsIn terms)) (clauses_cut clauses i item c.loop-clause-test.true) c.loop-clause.invariant.stand in
     subst (λ (lits : List BuiltLit). AllByRecursion (IsIn terms) (flat_map literal_trees (lits_of lits)))
     (ap (λ (clause : BuiltClause). clause.lits.items) (sym c.clause-item.is) ∙ sym c.as_slice.ensures.value)
-    (first_half (IsIn terms) (clause_trees (lits_of (get_or clauses i item).lits.items)) (flat_map clause_trees (clauses_of (drop (i + 1) clauses))) whole)
+    (apart (IsIn terms) (clause_trees (lits_of (get_or clauses i item).lits.items)) (flat_map clause_trees (clauses_of (drop (i + 1) clauses))) whole).0
 
 pub loop-clause-preserved : goal.loop-clause-preserved
 loop-clause-preserved c =
@@ -37,5 +38,5 @@ loop-clause-preserved c =
           ∙ ap (λ (front : List Clause). front ++ c.in_ok-clause_in.field-0 ∷ []) old.placed
           ∙ ap (λ (clause : Clause). clauses_in terms (clauses_of (take i clauses)) ++ clause ∷ []) placed
           ∙ sym (clauses_more terms clauses i item c.loop-clause-test.true);
-      stand = second_half (IsIn terms) (clause_trees (lits_of (get_or clauses i item).lits.items)) (flat_map clause_trees (clauses_of (drop (i + 1) clauses))) whole;
+      stand = (apart (IsIn terms) (clause_trees (lits_of (get_or clauses i item).lits.items)) (flat_map clause_trees (clauses_of (drop (i + 1) clauses))) whole).1;
     }

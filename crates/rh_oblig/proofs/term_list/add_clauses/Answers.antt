@@ -1,12 +1,13 @@
 use Rattle.std.proofs.Common.{◌≡◌, ◌+◌, List, drop, get_or, sym, subst, ◌∙◌, ap}
 use Rattle.std.specs.List.{AllByRecursion, flat_map}
+use Rattle.rh_list.proofs.Appended.{apart}
 use Rattle.rh_oblig.specs.declared.literal.TreeLit.{TreeLit as BuiltLit}
 use Rattle.rh_oblig.specs.declared.hypotheses.TreeClause.{TreeClause as BuiltClause}
 use Rattle.rh_oblig.specs.Sorts.{IsSorted}
 use Rattle.rh_oblig.specs.TermList.{clause_trees, literal_trees, with_trees}
 use Rattle.rh_oblig.specs.Tree.{Tree}
 use Rattle.rh_oblig.specs.View.{clauses_of, lits_of}
-use Rattle.rh_oblig.proofs.Build.{adds_piece, clauses_cut, first_half}
+use Rattle.rh_oblig.proofs.Build.{adds_piece, clauses_cut}
 use Rattle.rh_oblig.proofs.term_list.add_clauses.Goals as goal
 
 pub add_lits-requires : goal.add_lits-requires
@@ -18,7 +19,7 @@ add_lits-requires c =
     let whole = subst (AllByRecursion IsSorted) cut c.loop-clause.invariant.sorted in
     subst (λ (lits : List BuiltLit). AllByRecursion IsSorted (flat_map literal_trees (lits_of lits)))
     (ap (λ (clause : BuiltClause). clause.lits.items) (sym c.clause-item.is) ∙ sym c.as_slice.ensures.value)
-    (first_half IsSorted (clause_trees (lits_of (get_or clauses i item).lits.items)) (flat_map clause_trees (clauses_of (drop (i + 1) clauses))) whole)
+    (apart IsSorted (clause_trees (lits_of (get_or clauses i item).lits.items)) (flat_map clause_trees (clauses_of (drop (i + 1) clauses))) whole).0
 
 pub loop-clause-preserved : goal.loop-clause-preserved
 loop-clause-preserved c =

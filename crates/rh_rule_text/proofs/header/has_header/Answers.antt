@@ -1,7 +1,7 @@
 use Rattle.std.proofs.Common.{List, map, ap, ◌∙◌}
 use Rattle.rh_text.specs.declared.token.Token.{Token}
-use Rattle.rh_rule_text.specs.Words.{word_of}
-use Rattle.rh_rule_text.specs.Header.{begins_headed}
+use Rattle.rh_rule_source.specs.Words.{word_of}
+use Rattle.rh_rule_source.specs.Header.{begins_headed}
 use Rattle.rh_rule_text.proofs.Answered.{headed_told, no_header_told}
 use Rattle.rh_rule_text.proofs.header.has_header.Goals as goal
 

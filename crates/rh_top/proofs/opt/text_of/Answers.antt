@@ -1,9 +1,9 @@
 use Rattle.std.proofs.Common.{ℕ, ◌≡◌, ◌++◌, false, map, length, Vec, Global, ap, sym, subst, ◌∙◌}
+use Rattle.rh_list.specs.Each.{Each}
 use Rattle.rh_il_text.specs.Program.{IsText}
 use Rattle.rh_il_text.specs.Text.{program_text}
 use Rattle.rh_report.specs.Output.{rule_lines}
 use Rattle.rh_top.specs.Result.{IsResult}
-use Rattle.rh_ground.specs.Each.{Each}
 use Rattle.rh_transform.specs.Rewritten.{rewritten}
 use Rattle.rh_transform.specs.Bare.{IsBare}
 use Rattle.rh_log.specs.Admission.{ruling_of}

@@ -1,7 +1,5 @@
-use Rattle.std.proofs.Common.{List, rules, ◌≡◌, subst}
-use Rattle.rh_term.specs.Term.{IsTermList}
+use Rattle.std.proofs.Common.{◌≡◌, subst}
 use Rattle.rh_term.specs.Place.{place_in}
-use Rattle.rh_term.specs.declared.term.Term.{Term}
 use Rattle.rh_term.proofs.Placed.{found_place}
 use Rattle.rh_term.proofs.terms.Terms.find.Goals as goal
 

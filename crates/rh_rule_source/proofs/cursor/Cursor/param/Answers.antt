@@ -1,0 +1,26 @@
+use Rattle.std.proofs.Common.{◌≡◌, refl, arith, lit<}
+use Rattle.rh_rule_source.specs.Grammar.{productions, param}
+use Rattle.rh_rule_source.proofs.Steps.{chosen, within}
+use Rattle.rh_rule_source.proofs.cursor.Cursor.param.Goals as goal
+
+pub returns-in-8-clause-reads : goal.returns-in-8-clause-reads
+unfolding productions
+returns-in-8-clause-reads c rest h =
+    let s0 = c.choose-number.ensures.chooses param rest h in
+    let r0 = chosen c.choose-number.result 8 param rest c.choose-number.new.self c.in-8.is s0.1 in
+    let s1 = c.skip.ensures.skips _ _ r0.1 (lit< tt) in
+    let s2 = c.upper-name.ensures.reads _ s1.1 in
+    (cc (s0.0, s1.0, s2.0), s2.1)
+
+pub returns-in_default-clause-reads : goal.returns-in_default-clause-reads
+unfolding productions
+returns-in_default-clause-reads c rest h =
+    let s0 = c.choose-number.ensures.chooses param rest h in
+    let k = within c.choose-number.result param 8 10 rest c.choose-number.new.self refl s0.1 in
+    let low = k.0 in
+    let high = k.1 in
+    let is : c.choose-number.result ≡ 9 = omega arith in
+    let r0 = chosen c.choose-number.result 9 param rest c.choose-number.new.self is s0.1 in
+    let s1 = c.skip.ensures.skips _ _ r0.1 (lit< tt) in
+    let s2 = c.upper-name.ensures.reads _ s1.1 in
+    (cc (s0.0, s1.0, s2.0), s2.1)

@@ -1,0 +1,7 @@
+pub mod Words
+pub mod Grammar
+pub mod Cursor
+pub mod Source
+pub mod Lists
+pub mod Header
+pub mod Spelling
