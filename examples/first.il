@@ -1,0 +1,5 @@
+main(a) var x, y {
+  x := a + 0;
+  y := x + 1;
+  return y;
+}
