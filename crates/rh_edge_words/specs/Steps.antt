@@ -16,17 +16,17 @@ pub record Finds (m : Meaning) (word : ℕ) (v : View) (found : ℕ) (w : View) 
   pub counted : w.count ≡ bit_count w.credits
 
 module _ {S : Type 0} where
-  pub record Looks (m : Meaning) (step : Step S) (me : Me S View) (found : ℕ) (after : Me S View) : Type 0 where
-    pub view : after.0 ≡ after_look me.0 step.word found
+  -- the seat has the view w after the step, and carries what it carried
+  pub record Tells (m : Meaning) (word : ℕ) (me : Me S View) (found : ℕ) (w : View) (after : Me S View) : Type 0 where
+    pub view : after.0 ≡ w
     pub carried : after.1 ≡ me.1
-    pub finds : Finds m step.word me.0 found after.0
+    pub finds : Finds m word me.0 found after.0
 
-  pub record Loads (m : Meaning) (step : Step S) (me : Me S View) (found : ℕ) (after : Me S View) : Type 0 where
-    pub view : after.0 ≡ after_load me.0 step.word found
-    pub carried : after.1 ≡ me.1
-    pub finds : Finds m step.word me.0 found after.0
+  abbrev pub Looks : Meaning → Step S → Me S View → ℕ → Me S View → Type 0
+  Looks m step me found after = Tells m step.word me found (after_look me.0 step.word found) after
 
-  pub record Clears (m : Meaning) (step : Step S) (me : Me S View) (found : ℕ) (after : Me S View) : Type 0 where
-    pub view : after.0 ≡ after_clear me.0 step.word step.first found
-    pub carried : after.1 ≡ me.1
-    pub finds : Finds m step.word me.0 found after.0
+  abbrev pub Loads : Meaning → Step S → Me S View → ℕ → Me S View → Type 0
+  Loads m step me found after = Tells m step.word me found (after_load me.0 step.word found) after
+
+  abbrev pub Clears : Meaning → Step S → Me S View → ℕ → Me S View → Type 0
+  Clears m step me found after = Tells m step.word me found (after_clear me.0 step.word step.first found) after
