@@ -1,11 +1,10 @@
 -- A seat after a step.
 use Rattle.std.proofs.Common.{◌≡◌, subst, ℕ, ◌+◌, ◌*◌, ◌^◌, ◌<◌, ◌≤◌, List, length, get_or, set, bit_and, bit_or, sym, ap, arith, ◌∙◌, length-set}
-use mathlib.Core.Option.{none}
 use Rattle.std.specs.Int.RustNames.{count_ones}
 use Rattle.std.proofs.lemmas.List.Elements.{All-from_get_or}
 use Rattle.std.proofs.lemmas.List.Sums.{sum_by-le}
 use Rattle.std.proofs.lemmas.Nat.{ones-le}
-use Rattle.atomic_table.specs.Table.{Me, step}
+use Rattle.atomic_table.specs.Table.{Me}
 use Rattle.rh_system.specs.Bits.{bit_count}
 use Rattle.rh_core.specs.Moves.{taken}
 use Rattle.std.proofs.Common.{inl, inr, min}
@@ -17,8 +16,8 @@ use Rattle.rh_core.proofs.Lists.{by_place, united_length}
 use Rattle.rh_edge_words.proofs.Tallies.{sums_length}
 use Rattle.rh_edge_words.specs.declared.view.View.{View}
 use Rattle.rh_edge_words.specs.Meaning.{Meaning}
-use Rattle.rh_edge_words.specs.Views.{after_look, both_views}
-use Rattle.rh_edge_words.specs.Steps.{Finds, Looks, Loads, Clears}
+use Rattle.rh_edge_words.specs.Views.{after_look, after_load, after_clear, both_views}
+use Rattle.rh_edge_words.specs.Steps.{Finds, Tells}
 use Rattle.rh_edge_words.specs.Seated.{IsSeated, IsSeat}
 
 -- a count of credits is far from the largest number
@@ -42,9 +41,9 @@ written_within seen full word x k place less within =
     ]
 
 module _ {S : Type 0} (m : Meaning) where
-  pub cleared_seat : (slots word mask found count : ℕ) (me after : Me S View) (copy : List ℕ) (cleared stake : ℕ) → IsSeat m me.0 me.1 copy cleared stake → Clears m (step slots word mask 0 none) me found after
+  pub cleared_seat : (word mask found count : ℕ) (me after : Me S View) (copy : List ℕ) (cleared stake : ℕ) → IsSeat m me.0 me.1 copy cleared stake → Tells m word me found (after_clear me.0 word mask found) after
       → count ≡ count_ones (taken found mask) → IsSeat m after.0 after.1 (set copy word (bit_and found mask)) (cleared + count) stake
-  cleared_seat slots word mask found count me after copy cleared stake seat tells count_is =
+  cleared_seat word mask found count me after copy cleared stake seat tells count_is =
       let v = me.0 in
       let seated = seat.seated in
       let is = tells.view in
@@ -98,24 +97,24 @@ module _ {S : Type 0} (m : Meaning) where
         staked = seat.staked ∙ sym same;
       }
 
-  pub loaded_seat : (slots word found : ℕ) (me after : Me S View) (copy : List ℕ) (cleared stake : ℕ) → IsSeat m me.0 me.1 copy cleared stake → Loads m (step slots word 0 0 none) me found after
+  pub loaded_seat : (word found : ℕ) (me after : Me S View) (copy : List ℕ) (cleared stake : ℕ) → IsSeat m me.0 me.1 copy cleared stake → Tells m word me found (after_load me.0 word found) after
       → IsSeat m after.0 after.1 (set copy word found) cleared stake
-  loaded_seat slots word found me after copy cleared stake seat tells =
+  loaded_seat word found me after copy cleared stake seat tells =
       let is = tells.view in
       read_seat word found me.0 after.0 me.1 after.1 copy cleared stake seat (ap (λ (u : View). u.seen) is) (ap (λ (u : View). u.credits) is) (ap (λ (u : View). u.count) is) (ap (λ (u : View). u.stake) is)
       (ap (λ (u : View). length u.loads) is ∙ length-set me.0.loads word (get_or me.0.loads word 0 + 1)) tells.carried tells.finds
 
-  pub looked_seat : (slots word found : ℕ) (me after : Me S View) (copy : List ℕ) (cleared stake : ℕ) → IsSeat m me.0 me.1 copy cleared stake → Looks m (step slots word 0 0 none) me found after
+  pub looked_seat : (word found : ℕ) (me after : Me S View) (copy : List ℕ) (cleared stake : ℕ) → IsSeat m me.0 me.1 copy cleared stake → Tells m word me found (after_look me.0 word found) after
       → IsSeat m after.0 after.1 (set copy word found) cleared stake
-  looked_seat slots word found me after copy cleared stake seat tells =
+  looked_seat word found me after copy cleared stake seat tells =
       let is = tells.view in
       read_seat word found me.0 after.0 me.1 after.1 copy cleared stake seat (ap (λ (u : View). u.seen) is) (ap (λ (u : View). u.credits) is) (ap (λ (u : View). u.count) is) (ap (λ (u : View). u.stake) is)
       (ap (λ (u : View). length u.loads) is) tells.carried tells.finds
 
   -- a seat that took in another, and then read word 0
-  pub joined_seat : (slots found : ℕ) (me other mid after : Me S View) (copy : List ℕ) (cleared stake : ℕ) (copy' : List ℕ) (cleared' stake' : ℕ) → IsSeat m me.0 me.1 copy cleared stake → IsSeat m other.0 other.1 copy' cleared' stake'
-      → mid ≡ (both_views me.0 other.0, me.1) → Looks m (step slots 0 0 0 none) mid found after → IsSeat m after.0 after.1 (set copy 0 found) (cleared + cleared') (stake + stake')
-  joined_seat slots found me other mid after copy cleared stake copy' cleared' stake' seat seat' joined tells =
+  pub joined_seat : (found : ℕ) (me other mid after : Me S View) (copy : List ℕ) (cleared stake : ℕ) (copy' : List ℕ) (cleared' stake' : ℕ) → IsSeat m me.0 me.1 copy cleared stake → IsSeat m other.0 other.1 copy' cleared' stake'
+      → mid ≡ (both_views me.0 other.0, me.1) → Tells m 0 mid found (after_look mid.0 0 found) after → IsSeat m after.0 after.1 (set copy 0 found) (cleared + cleared') (stake + stake')
+  joined_seat found me other mid after copy cleared stake copy' cleared' stake' seat seat' joined tells =
       let v = me.0 in
       let w = other.0 in
       let is : after.0 ≡ after_look (both_views v w) 0 found = tells.view ∙ ap (λ (p : Me S View). after_look p.0 0 found) joined in

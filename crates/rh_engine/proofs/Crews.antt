@@ -1,5 +1,5 @@
 -- The workers of a table, as they are made, run and joined.
-use Rattle.std.proofs.Common.{◌≡◌, inl, inr, ℕ, suc, ◌+◌, ◌-◌, ◌*◌, ◌/◌, ◌<◌, ◌≤◌, IsTrue, List, [], ◌∷◌, ◌++◌, length, get_or, set, refl, sym, ap, subst, arith, ◌∙◌, sum_by, length-append}
+use Rattle.std.proofs.Common.{◌≡◌, inl, inr, ℕ, zero, suc, ◌+◌, ◌-◌, ◌*◌, ◌/◌, ◌<◌, ◌≤◌, IsTrue, List, [], ◌∷◌, ◌++◌, length, get_or, set, replicate, refl, sym, ap, subst, arith, ◌∙◌, sum_by, length-append, length-set}
 use Rattle.std.specs.List.{All}
 use Rattle.std.specs.Int.{bit_at}
 use Rattle.std.proofs.lemmas.Bool.{cases_lt}
@@ -16,52 +16,88 @@ use Rattle.rh_system.proofs.OneRound.{full_holds}
 use Rattle.rh_core.proofs.Lists.{by_place}
 use Rattle.rh_core.proofs.Keeps.{wider}
 use Rattle.rh_edge_words.specs.declared.view.View.{View}
+use Rattle.rh_edge_words.specs.Views.{first_view, sums}
 use Rattle.rh_edge_words.specs.Seated.{SplitsView, JoinsView}
-use Rattle.rh_engine.specs.Crew.{Seen, IsCrew, HasRun}
+use Rattle.rh_engine.specs.Turns.{more_loads}
+use Rattle.rh_engine.specs.Crew.{Seen, HasLoaded, IsCrew, HasRun}
+use Rattle.rh_engine.proofs.Fewer.{word_written}
 
 -- ---- made
 
--- the workers below `id` but the first have their seats
-pub record Gathers (table : TableId) (id : ℕ) (crew : List Seen) (first : TableId × View) : Type 0 where
+-- the workers below `id` have their seats
+pub record Gathers (table : TableId) (words id : ℕ) (crew : List Seen) (first : TableId × View) : Type 0 where
   pub at : first.0 ≡ table
-  pub many : length crew + 1 ≡ id
+  pub many : length crew ≡ id
   pub tables : All (λ w. w.0 ≡ table) crew
-  pub stake : first.1.stake + id ≡ 17
+  pub stake : first.1.stake + id ≡ 16
   pub stakes : sum_by (λ w. w.1.stake) crew + first.1.stake ≡ 16
+  pub seen_long : length first.1.seen ≡ words
+  pub loads : first.1.loads ≡ replicate words 0
+  pub fresh : All (HasLoaded words 0) crew
+  pub numbered : (i : ℕ) (d : Seen) → i < id → (get_or crew i d).3 ≡ i
 
-pub gathers_none : (table : TableId) (first : TableId × View) → first.0 ≡ table → first.1.stake ≡ 16 → Gathers table 1 [] first
-gathers_none table first at stake = record { at = at; many = refl; tables = All-nil (λ w. w.0 ≡ table); stake = omega arith; stakes = omega arith }
+pub gathers_none : (table : TableId) (full : List ℕ) (first : TableId × View) → first.0 ≡ table → first.1 ≡ first_view full → Gathers table (length full) 0 [] first
+gathers_none table full first at view =
+    let stake : first.1.stake ≡ 16 = ap (λ (u : View). u.stake) view in
+    record {
+      at = at;
+      many = refl;
+      tables = All-nil (λ (w : Seen). w.0 ≡ table);
+      stake = omega arith;
+      stakes = omega arith;
+      seen_long = ap (λ (u : View). length u.seen) view;
+      loads = ap (λ (u : View). u.loads) view;
+      fresh = All-nil (HasLoaded (length full) 0);
+      numbered = λ i d below. absurd (omega arith);
+    }
 
-pub gathers_more : (table : TableId) (id : ℕ) (crew : List Seen) (first after new : TableId × View) (w : Seen) → Gathers table id crew first → 2 ≤ first.1.stake → after.0 ≡ first.0 → new.0 ≡ first.0 → SplitsView first.1 after.1 new.1 → w ≡ (new.0, new.1, 0)
-    → Gathers table (id + 1) (crew ++ w ∷ []) after
-gathers_more table id crew first after new w so_far enough at new_at split is =
+-- a worker more, whose number is its place
+numbered_more : (crew : List Seen) (w : Seen) (id : ℕ) → length crew ≡ id → w.3 ≡ id → ((i : ℕ) (d : Seen) → i < id → (get_or crew i d).3 ≡ i) → (i : ℕ) (d : Seen) → i < id + 1 → (get_or (crew ++ w ∷ []) i d).3 ≡ i
+numbered_more [] w id many is so_far zero d below = is ∙ sym many
+numbered_more [] w id many is so_far (suc i) d below = absurd (omega arith)
+numbered_more (x ∷ xs) w id many is so_far i d below =
+    elim (cases_lt i (length (x ∷ xs))) [
+      | inl inside ↦ ap (λ (y : Seen). y.3) (get_or-append_left (x ∷ xs) (w ∷ []) i d inside) ∙ so_far i d (omega arith)
+      | inr past ↦ absurd (omega arith)
+    ]
+
+pub gathers_more : (table : TableId) (words id : ℕ) (crew : List Seen) (first after new : TableId × View) (w : Seen) → Gathers table words id crew first → 2 ≤ first.1.stake → after.0 ≡ first.0 → new.0 ≡ first.0 → SplitsView first.1 after.1 new.1
+    → w ≡ (new.0, new.1, 0, id) → Gathers table words (id + 1) (crew ++ w ∷ []) after
+gathers_more table words id crew first after new w so_far enough at new_at split is =
     let stake : after.1.stake ≡ first.1.stake - 1 = ap (λ (u : View). u.stake) split.splitting in
     let one : new.1.stake ≡ 1 = ap (λ (u : View). u.stake) split.new_one in
     let w_stake : w.1.stake ≡ new.1.stake = ap (λ (x : Seen). x.1.stake) is in
     let sums : sum_by (λ (x : Seen). x.1.stake) (crew ++ w ∷ []) ≡ sum_by (λ (x : Seen). x.1.stake) crew + w.1.stake = sum_by_push (λ (x : Seen). x.1.stake) crew w in
     let long : length (crew ++ w ∷ []) ≡ length crew + 1 = length-append crew (w ∷ []) in
-    let many : length crew + 1 ≡ id = so_far.many in
-    let was : first.1.stake + id ≡ 17 = so_far.stake in
+    let many : length crew ≡ id = so_far.many in
+    let was : first.1.stake + id ≡ 16 = so_far.stake in
     let whole : sum_by (λ (x : Seen). x.1.stake) crew + first.1.stake ≡ 16 = so_far.stakes in
+    let looked : length (set first.1.seen 0 split.found) ≡ words = length-set first.1.seen 0 split.found ∙ so_far.seen_long in
     record {
       at = at ∙ so_far.at;
       many = omega arith;
       tables = All-push (λ (x : Seen). x.0 ≡ table) crew w so_far.tables (ap (λ (x : Seen). x.0) is ∙ (new_at ∙ so_far.at));
       stake = omega arith;
       stakes = omega arith;
+      seen_long = ap (λ (u : View). length u.seen) split.splitting ∙ looked;
+      loads = ap (λ (u : View). u.loads) split.splitting ∙ so_far.loads;
+      fresh = All-push (HasLoaded words 0) crew w so_far.fresh (ap (λ (x : Seen). x.1.loads) is ∙ (ap (λ (u : View). u.loads) split.new_one ∙ ap (λ (n : ℕ). replicate n 0) looked));
+      numbered = numbered_more crew w id so_far.many (ap (λ (x : Seen). x.3) is) so_far.numbered;
     }
 
-pub gathers_all : (table : TableId) (id workers : ℕ) (crew : List Seen) (first : TableId × View) (w : Seen) → Gathers table id crew first → id ≡ workers → w ≡ (first.0, first.1, 0) → IsCrew table workers (crew ++ w ∷ [])
-gathers_all table id workers crew first w so_far all is =
+pub gathers_all : (table : TableId) (words id workers : ℕ) (crew : List Seen) (first : TableId × View) (w : Seen) → Gathers table words id crew first → id + 1 ≡ workers → w ≡ (first.0, first.1, 0, id) → IsCrew table words workers (crew ++ w ∷ [])
+gathers_all table words id workers crew first w so_far all is =
     let w_stake : w.1.stake ≡ first.1.stake = ap (λ (x : Seen). x.1.stake) is in
     let sums : sum_by (λ (x : Seen). x.1.stake) (crew ++ w ∷ []) ≡ sum_by (λ (x : Seen). x.1.stake) crew + w.1.stake = sum_by_push (λ (x : Seen). x.1.stake) crew w in
     let long : length (crew ++ w ∷ []) ≡ length crew + 1 = length-append crew (w ∷ []) in
-    let many : length crew + 1 ≡ id = so_far.many in
+    let many : length crew ≡ id = so_far.many in
     let whole : sum_by (λ (x : Seen). x.1.stake) crew + first.1.stake ≡ 16 = so_far.stakes in
     record {
       many = omega arith;
       tables = All-push (λ (x : Seen). x.0 ≡ table) crew w so_far.tables (ap (λ (x : Seen). x.0) is ∙ so_far.at);
       stakes = omega arith;
+      fresh = All-push (HasLoaded words 0) crew w so_far.fresh (ap (λ (x : Seen). x.1.loads) is ∙ so_far.loads);
+      numbered = λ i d below. numbered_more crew w id so_far.many (ap (λ (x : Seen). x.3) is) so_far.numbered i d (omega arith);
     }
 
 -- ---- joined
@@ -69,18 +105,17 @@ gathers_all table id workers crew first w so_far all is =
 -- words that hold Greatest and lie within words that are Greatest
 pub still_greatest : (rows : List Row) (seen after : List ℕ) (found : ℕ) → IsGreatest rows seen → HoldsGreatest rows after → after ≡ set seen 0 found → IsSubword found (get_or seen 0 0) → IsGreatest rows after
 still_greatest rows seen after found greatest holds is within =
-    let less : (k : ℕ) → IsSubword (get_or (set seen 0 found) k 0) (get_or seen k 0) =
-    λ k place.
-    elim (cases_lt 0 (length seen)) [
-      | inl inside ↦ by_place (λ (x : ℕ). bit_at x place ≤ bit_at (get_or seen k 0) place) seen 0 k found 0 inside
-          (λ same. let a : bit_at (get_or seen k 0) place ≡ bit_at (get_or seen 0 0) place = ap (λ (i : ℕ). bit_at (get_or seen i 0) place) same in let b = within place in omega arith)
-          (λ differs. omega arith)
-      | inr past ↦ let same : bit_at (get_or (set seen 0 found) k 0) place ≡ bit_at (get_or seen k 0) place = ap (λ (ws : List ℕ). bit_at (get_or ws k 0) place) (set_past seen 0 found past) in omega arith
-    ] in
-    λ bit. (
-      (λ h. (greatest bit).0 (wider (set seen 0 found) seen less bit (subst (λ (ws : List ℕ). IsTrue (bits_in ws bit)) is h))),
-      holds bit,
-    )
+    λ bit. ((λ h. (greatest bit).0 (wider (set seen 0 found) seen (word_written seen 0 found within) bit (subst (λ (ws : List ℕ). IsTrue (bits_in ws bit)) is h))), holds bit)
+
+-- ---- loads
+
+pub copies_more : (words n : ℕ) → more_loads n (replicate words 0) ≡ replicate words n
+copies_more zero n = refl
+copies_more (suc words) n = let here : 0 + n ≡ n = omega arith in ap (λ (k : ℕ). k ∷ more_loads n (replicate words 0)) here ∙ ap (λ (l : List ℕ). n ∷ l) (copies_more words n)
+
+copies_sum : (words n k : ℕ) → sums (replicate words n) (replicate words k) ≡ replicate words (n + k)
+copies_sum zero n k = refl
+copies_sum (suc words) n k = ap (λ (l : List ℕ). (n + k) ∷ l) (copies_sum words n k)
 
 -- some of the workers are joined, and the others are left
 pub record Joins (table : TableId) (full : List ℕ) (rows : List Row) (workers : ℕ) (left : List Seen) (seat : TableId × View) (turns : ℕ) : Type 0 where
@@ -89,6 +124,7 @@ pub record Joins (table : TableId) (full : List ℕ) (rows : List Row) (workers 
   pub tables : All (λ w. w.0 ≡ table) left
   pub run : All (HasRun full rows) left
   pub stakes : sum_by (λ w. w.1.stake) left + seat.1.stake ≡ 16
+  pub loaded : seat.1.loads ≡ replicate (length full) turns
   pub enough : workers ≤ turns + length left
   pub most : turns + length left * (bit_count full + 1) ≤ workers * (bit_count full + 1)
 
@@ -122,6 +158,8 @@ join_step table full rows workers left rest w seat after turns popped so_far at 
       tables = tables.0;
       run = run.0;
       stakes = omega arith;
+      loaded = ap (λ (u : View). u.loads) joins.joined
+          ∙ (ap (λ (l : List ℕ). sums l w.1.loads) so_far.loaded ∙ (ap (λ (l : List ℕ). sums (replicate (length full) turns) l) ran.loaded ∙ copies_sum (length full) turns w.2));
       enough = omega arith;
       most = omega arith;
     }
@@ -145,17 +183,12 @@ join_first table full rows workers crew rest w popped many tables run stakes =
       tables = tables'.0;
       run = run'.0;
       stakes = omega arith;
+      loaded = ran.loaded;
       enough = omega arith;
       most = omega arith;
     }
 
 -- ---- run
-
--- what a run leaves of a worker
-pub record Ran (full : List ℕ) (rows : List Row) (x y : Seen) : Type 0 where
-  pub at : y.0 ≡ x.0
-  pub stake : y.1.stake ≡ x.1.stake
-  pub run : HasRun full rows y
 
 pub same_sums : (f : Seen → ℕ) (xs ys : List Seen) → length xs ≡ length ys → ((i : ℕ) (d : Seen) → i < length xs → f (get_or ys i d) ≡ f (get_or xs i d)) → sum_by f ys ≡ sum_by f xs
 same_sums f [] [] long same = refl
