@@ -3,7 +3,8 @@ use Rattle.std.proofs.Common.{◌≡◌, inl, inr, ℕ, zero, suc, ◌+◌, ◌-
 use Rattle.std.specs.List.{All}
 use Rattle.std.specs.Int.{bit_at}
 use Rattle.std.proofs.lemmas.Bool.{cases_lt}
-use Rattle.std.proofs.lemmas.List.{set_past}
+use Rattle.std.proofs.Math.Seq.{get_or-append_seam}
+use Rattle.std.proofs.lemmas.List.{get_or_append_left}
 use Rattle.std.proofs.Common.{Some}
 use Rattle.std.proofs.lemmas.List.Elements.{All-nil, All-push, All-pop}
 use Rattle.std.proofs.lemmas.List.Sums.{sum_by_push, sum_by-cons}
@@ -53,12 +54,12 @@ gathers_none table full first at view =
 
 -- a worker more, whose number is its place
 numbered_more : (crew : List Seen) (w : Seen) (id : ℕ) → length crew ≡ id → w.3 ≡ id → ((i : ℕ) (d : Seen) → i < id → (get_or crew i d).3 ≡ i) → (i : ℕ) (d : Seen) → i < id + 1 → (get_or (crew ++ w ∷ []) i d).3 ≡ i
-numbered_more [] w id many is so_far zero d below = is ∙ sym many
-numbered_more [] w id many is so_far (suc i) d below = absurd (omega arith)
-numbered_more (x ∷ xs) w id many is so_far i d below =
-    elim (cases_lt i (length (x ∷ xs))) [
-      | inl inside ↦ ap (λ (y : Seen). y.3) (get_or-append_left (x ∷ xs) (w ∷ []) i d inside) ∙ so_far i d (omega arith)
-      | inr past ↦ absurd (omega arith)
+numbered_more crew w id many is so_far i d below =
+    elim (cases_lt i (length crew)) [
+      | inl inside ↦ ap (λ (y : Seen). y.3) (get_or_append_left crew (w ∷ []) d i inside) ∙ so_far i d (omega arith)
+      | inr past ↦
+          let here : i ≡ length crew = omega arith in
+          subst (λ (j : ℕ). (get_or (crew ++ w ∷ []) j d).3 ≡ j) (sym here) (ap (λ (y : Seen). y.3) (get_or-append_seam crew w [] d) ∙ (is ∙ sym many))
     ]
 
 pub gathers_more : (table : TableId) (words id : ℕ) (crew : List Seen) (first after new : TableId × View) (w : Seen) → Gathers table words id crew first → 2 ≤ first.1.stake → after.0 ≡ first.0 → new.0 ≡ first.0 → SplitsView first.1 after.1 new.1
@@ -109,13 +110,24 @@ still_greatest rows seen after found greatest holds is within =
 
 -- ---- loads
 
-pub copies_more : (words n : ℕ) → more_loads n (replicate words 0) ≡ replicate words n
+copies_more : (words n : ℕ) → more_loads n (replicate words 0) ≡ replicate words n
 copies_more zero n = refl
 copies_more (suc words) n = let here : 0 + n ≡ n = omega arith in ap (λ (k : ℕ). k ∷ more_loads n (replicate words 0)) here ∙ ap (λ (l : List ℕ). n ∷ l) (copies_more words n)
+
+-- workers that had loaded nothing, after their runs
+pub loaded_afresh : (words : ℕ) (before after : List Seen) → length after ≡ length before → All (HasLoaded words 0) before
+    → ((i : ℕ) (d : Seen) → i < length before → (get_or after i d).1.loads ≡ more_loads (get_or after i d).2 (get_or before i d).1.loads) → All (λ w. HasLoaded words w.2 w) after
+loaded_afresh words before after long fresh more = λ i d inside.
+    let within : i < length before = omega arith in
+    let n : ℕ = (get_or after i d).2 in
+    more i d within ∙ (ap (more_loads n) (fresh i d within) ∙ copies_more words n)
 
 copies_sum : (words n k : ℕ) → sums (replicate words n) (replicate words k) ≡ replicate words (n + k)
 copies_sum zero n k = refl
 copies_sum (suc words) n k = ap (λ (l : List ℕ). (n + k) ∷ l) (copies_sum words n k)
+
+loads_added : (words n k : ℕ) (xs ys both : List ℕ) → both ≡ sums xs ys → xs ≡ replicate words n → ys ≡ replicate words k → both ≡ replicate words (n + k)
+loads_added words n k xs ys both is p q = is ∙ (ap (λ (l : List ℕ). sums l ys) p ∙ (ap (sums (replicate words n)) q ∙ copies_sum words n k))
 
 -- some of the workers are joined, and the others are left
 pub record Joins (table : TableId) (full : List ℕ) (rows : List Row) (workers : ℕ) (left : List Seen) (seat : TableId × View) (turns : ℕ) : Type 0 where
@@ -124,6 +136,7 @@ pub record Joins (table : TableId) (full : List ℕ) (rows : List Row) (workers 
   pub tables : All (λ w. w.0 ≡ table) left
   pub run : All (HasRun full rows) left
   pub stakes : sum_by (λ w. w.1.stake) left + seat.1.stake ≡ 16
+  pub each_loaded : All (λ w. HasLoaded (length full) w.2 w) left
   pub loaded : seat.1.loads ≡ replicate (length full) turns
   pub enough : workers ≤ turns + length left
   pub most : turns + length left * (bit_count full + 1) ≤ workers * (bit_count full + 1)
@@ -141,6 +154,7 @@ join_step table full rows workers left rest w seat after turns popped so_far at 
     let tables = All-pop (λ (x : Seen). x.0 ≡ table) left rest (Some w) popped so_far.tables in
     let run = All-pop (HasRun full rows) left rest (Some w) popped so_far.run in
     let ran : HasRun full rows w = run.1 in
+    let each_loaded = All-pop (λ (x : Seen). HasLoaded (length full) x.2 x) left rest (Some w) popped so_far.each_loaded in
     let stake : after.1.stake ≡ seat.1.stake + w.1.stake = ap (λ (u : View). u.stake) joins.joined in
     let sums : sum_by (λ (x : Seen). x.1.stake) (rest ++ w ∷ []) ≡ sum_by (λ (x : Seen). x.1.stake) rest + w.1.stake = sum_by_push (λ (x : Seen). x.1.stake) rest w in
     let same : sum_by (λ (x : Seen). x.1.stake) left ≡ sum_by (λ (x : Seen). x.1.stake) (rest ++ w ∷ []) = ap (sum_by (λ (x : Seen). x.1.stake)) popped in
@@ -158,18 +172,19 @@ join_step table full rows workers left rest w seat after turns popped so_far at 
       tables = tables.0;
       run = run.0;
       stakes = omega arith;
-      loaded = ap (λ (u : View). u.loads) joins.joined
-          ∙ (ap (λ (l : List ℕ). sums l w.1.loads) so_far.loaded ∙ (ap (λ (l : List ℕ). sums (replicate (length full) turns) l) ran.loaded ∙ copies_sum (length full) turns w.2));
+      loaded = loads_added (length full) turns w.2 seat.1.loads w.1.loads after.1.loads (ap (λ (u : View). u.loads) joins.joined) so_far.loaded each_loaded.1;
+      each_loaded = each_loaded.0;
       enough = omega arith;
       most = omega arith;
     }
 
 pub join_first : (table : TableId) (full : List ℕ) (rows : List Row) (workers : ℕ) (crew rest : List Seen) (w : Seen) → crew ≡ rest ++ w ∷ [] → length crew ≡ workers → All (λ x. x.0 ≡ table) crew → All (HasRun full rows) crew
-    → sum_by (λ x. x.1.stake) crew ≡ 16 → Joins table full rows workers rest (w.0, w.1) w.2
-join_first table full rows workers crew rest w popped many tables run stakes =
+    → All (λ x. HasLoaded (length full) x.2 x) crew → sum_by (λ x. x.1.stake) crew ≡ 16 → Joins table full rows workers rest (w.0, w.1) w.2
+join_first table full rows workers crew rest w popped many tables run all_loaded stakes =
     let tables' = All-pop (λ (x : Seen). x.0 ≡ table) crew rest (Some w) popped tables in
     let run' = All-pop (HasRun full rows) crew rest (Some w) popped run in
     let ran : HasRun full rows w = run'.1 in
+    let each_loaded = All-pop (λ (x : Seen). HasLoaded (length full) x.2 x) crew rest (Some w) popped all_loaded in
     let sums : sum_by (λ (x : Seen). x.1.stake) (rest ++ w ∷ []) ≡ sum_by (λ (x : Seen). x.1.stake) rest + w.1.stake = sum_by_push (λ (x : Seen). x.1.stake) rest w in
     let same : sum_by (λ (x : Seen). x.1.stake) crew ≡ sum_by (λ (x : Seen). x.1.stake) (rest ++ w ∷ []) = ap (sum_by (λ (x : Seen). x.1.stake)) popped in
     let long : workers ≡ length rest + 1 = sym many ∙ (ap length popped ∙ length-append rest (w ∷ [])) in
@@ -183,7 +198,8 @@ join_first table full rows workers crew rest w popped many tables run stakes =
       tables = tables'.0;
       run = run'.0;
       stakes = omega arith;
-      loaded = ran.loaded;
+      loaded = each_loaded.1;
+      each_loaded = each_loaded.0;
       enough = omega arith;
       most = omega arith;
     }

@@ -44,6 +44,10 @@ word_written seen word x within k place =
           omega arith
     ]
 
+pub part_written : (seen : List ℕ) (word part found : ℕ) → IsSubword found (get_or seen word 0) → AreWithin (set seen word (bit_and found part)) seen
+part_written seen word part found within =
+    word_written seen word (bit_and found part) (λ i. let a = within i in let b : bit_at (bit_and found part) i ≡ min (bit_at found i) (bit_at part i) = bit_at_and found part i in omega arith)
+
 -- of a seen word only a part was kept, which was not the whole, and of that only what was found
 pub count_cleared : (seen : List ℕ) (word part found : ℕ) → word < length seen → get_or seen word 0 < 2 ^ 64 → IsSubword part (get_or seen word 0) → part ≢ get_or seen word 0
     → bit_count (set seen word (bit_and found part)) < bit_count seen

@@ -23,9 +23,8 @@ pub record IsCrew (table : TableId) (words workers : ℕ) (crew : List Seen) : T
   pub fresh : All (HasLoaded words 0) crew
   pub numbered : (i : ℕ) (d : Seen) → i < workers → (slice_index_or crew i d).3 ≡ i
 
--- the worker has come to its end in one turn or more, and at most one more than there are bits. It loaded each word as often
+-- the worker has come to its end in one turn or more, and at most one more than there are bits
 pub record HasRun (full : List ℕ) (rows : List Row) (w : Seen) : Type 0 where
   pub greatest : IsGreatest rows w.1.seen
-  pub loaded : HasLoaded (length full) w.2 w
   pub some : 0 < w.2
   pub few : w.2 ≤ bit_count full + 1

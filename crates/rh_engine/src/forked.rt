@@ -2,6 +2,7 @@
 ghost use Rattle.std.specs.Prelude.{◌≡◌, ◌+◌, ◌*◌, ◌<◌, ◌≤◌, [], IfOk, length, replicate, sum_by, vec_len, All, ℕ, slice_index_or};
 ghost use Rattle.rh_system.specs.Bits.{bit_count};
 ghost use Rattle.rh_system.specs.Rows.{IsGreatest};
+ghost use Rattle.rh_engine.specs.Turns.{more_loads};
 ghost use Rattle.rh_engine.specs.Crew.{Seen, HasLoaded, IsCrew, HasRun};
 ghost use Rattle.rh_edge_words.specs.Views.{first_view};
 
@@ -57,10 +58,10 @@ fn run_all<R: Threads + Sync, S: System + Sync, N: SystemName + Send + Sync, G: 
 )
     requires some { 0 < length crew.old }
     requires tables { All (λ w. w.0 ≡ words.now.0) crew.old }
-    requires fresh { All (HasLoaded (length N.meaning.full) 0) crew.old }
     ensures tables { All (λ w. w.0 ≡ words.now.0) crew.new }
     ensures run { All (HasRun N.meaning.full N.meaning.rows) crew.new }
     ensures stakes { (i : ℕ) (d : Seen) → i < length crew.old → (slice_index_or crew.new i d).1.stake ≡ (slice_index_or crew.old i d).1.stake }
+    ensures loads { (i : ℕ) (d : Seen) → i < length crew.old → (slice_index_or crew.new i d).1.loads ≡ more_loads (slice_index_or crew.new i d).2 (slice_index_or crew.old i d).1.loads }
     ensures numbers { (i : ℕ) (d : Seen) → i < length crew.old → (slice_index_or crew.new i d).3 ≡ (slice_index_or crew.old i d).3 }
 {
     let threads = crew.len();
@@ -76,6 +77,7 @@ fn gather<S: System, N: SystemName>(
     requires few { vec_len crew ≤ 16 }
     requires tables { All (λ w. w.0 ≡ words.now.0) crew.items }
     requires run { All (HasRun N.meaning.full N.meaning.rows) crew.items }
+    requires loaded { All (λ w. HasLoaded (length N.meaning.full) w.2 w) crew.items }
     requires stakes { sum_by (λ w. w.1.stake) crew.items ≡ 16 }
     ensures table { result.0.0 ≡ words.now.0 }
     ensures stake { result.0.1.stake ≡ 16 }
@@ -99,11 +101,7 @@ fn gather<S: System, N: SystemName>(
 }
 
 /// Ends the table. The turns are those that the loads of its last seat show.
-fn close<S: System, N: SystemName>(
-    words: EdgeWords<S, N>,
-    seat: WordSeat<N>,
-    turns: u64,
-) -> Solved
+fn close<S: System, N: SystemName>(words: EdgeWords<S, N>, seat: WordSeat<N>, turns: u64) -> Solved
     requires table { seat.0 ≡ words.0 }
     requires stake { seat.1.stake ≡ 16 }
     requires greatest { IsGreatest N.meaning.rows seat.1.seen }
