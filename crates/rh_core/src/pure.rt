@@ -151,7 +151,9 @@ pub fn words_law<S: System>(_system: &S)
     ensures { (workers : ℕ) (events : List Event) → AreLawful (S.rows _system.now) (opening (S.full_words _system.now) workers) events → KeepsWords (S.full_words _system.now) (S.rows _system.now) (after_all (opening (S.full_words _system.now) workers) events) }
 {}
 
-/// A law: each of the four moves keeps the words law, from every state.
+/// A law: each of the four moves keeps the words law, from every state, and each lawful event is a
+/// move.
 pub fn moves_law<S: System>(_system: &S)
-    ensures { (s t : CoreState) → Move (S.rows _system.now) s t → KeepsWords (S.full_words _system.now) (S.rows _system.now) s → KeepsWords (S.full_words _system.now) (S.rows _system.now) t }
+    ensures keeps { (s t : CoreState) → Move (S.rows _system.now) s t → KeepsWords (S.full_words _system.now) (S.rows _system.now) s → KeepsWords (S.full_words _system.now) (S.rows _system.now) t }
+    ensures events { (s : CoreState) (event : Event) → IsLawful (S.rows _system.now) s event → Move (S.rows _system.now) s (after s event) }
 {}

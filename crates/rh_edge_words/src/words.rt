@@ -1,9 +1,11 @@
 //! The words that threads share.
-ghost use Rattle.std.specs.Prelude.{◌≡◌, ◌+◌, ◌<◌, ◌≤◌, ◌^◌, ℕ, IfOk, OnErr, length, slice_index};
+ghost use Rattle.std.specs.Prelude.{◌≡◌, ◌+◌, ◌<◌, ◌≤◌, ◌^◌, ℕ, List, IfOk, OnErr, length, slice_index};
 ghost use Rattle.rh_system.specs.Bits.{IsSubword, bit_count};
 ghost use Rattle.rh_system.specs.Rows.{HoldsGreatest, IsGreatest};
 ghost use Rattle.rh_core.specs.Moves.{MayClear};
 ghost use Rattle.rh_edge_words.specs.Seated.{IsNameOf, SplitsView, JoinsView, ArePartsOf};
+ghost use Rattle.rh_edge_words.specs.Steps.{view_at, StepsAreMoves};
+ghost use Rattle.rh_edge_words.specs.declared.view.View.{View};
 ghost use Rattle.rh_edge_words.specs.Views.{first_view, after_look, after_load, after_clear, poorer, new_view};
 
 use crate::rule::{Clearing, Halves, Loading, Looking, SystemName, Unites, WordsRule};
@@ -84,6 +86,14 @@ impl<'s, S: System, N: SystemName> EdgeWords<'s, S, N> {
     /// A law: the name is one of the system.
     pub fn is_named(&self)
         ensures { IsNameOf N.meaning (S.full_words self.now.1) (S.rows self.now.1) }
+    {
+        let _ = &self.table;
+    }
+
+    /// A law: each step of a seat that is not spent is a move of the core, whatever the words and
+    /// the views of all seats are.
+    pub fn steps_are_moves(&self)
+        ensures { (words : List ℕ) (views : List View) (id : ℕ) → 0 < (view_at views id).stake → StepsAreMoves N.meaning.rows words views id }
     {
         let _ = &self.table;
     }

@@ -14,14 +14,12 @@ use Rattle.rh_system.specs.Bits.{bits_in, bit_count, IsSubword}
 use Rattle.rh_system.specs.Rows.{IsCovered, IsGreatest, HoldsGreatest}
 use Rattle.rh_system.proofs.Supports.{greatest_from, bit_inside}
 use Rattle.rh_system.proofs.OneRound.{full_holds}
-use Rattle.rh_core.proofs.Lists.{by_place}
-use Rattle.rh_core.proofs.Keeps.{wider}
+use Rattle.rh_core.proofs.Keeps.{wider, word_written}
 use Rattle.rh_edge_words.specs.declared.view.View.{View}
 use Rattle.rh_edge_words.specs.Views.{first_view, sums}
 use Rattle.rh_edge_words.specs.Seated.{SplitsView, JoinsView}
 use Rattle.rh_engine.specs.Turns.{more_loads}
 use Rattle.rh_engine.specs.Crew.{Seen, HasLoaded, IsCrew, HasRun}
-use Rattle.rh_engine.proofs.Fewer.{word_written}
 
 -- ---- made
 

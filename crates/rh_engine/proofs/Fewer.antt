@@ -14,8 +14,7 @@ use Rattle.rh_system.specs.declared.system.Row.{Row}
 use Rattle.rh_system.specs.Bits.{IsSubword, bits_in, bit_count}
 use Rattle.rh_system.specs.Rows.{supports, IsSupported, IsSupportedPart}
 use Rattle.rh_system.proofs.Supports.{bits_in_same, bit_inside, supports_grows}
-use Rattle.rh_core.proofs.Lists.{by_place}
-use Rattle.rh_core.proofs.Keeps.{wider}
+use Rattle.rh_core.proofs.Keeps.{wider, word_written}
 use Rattle.rh_edge_words.specs.declared.view.View.{View}
 use Rattle.rh_edge_words.specs.Views.{after_load}
 use Rattle.rh_edge_words.proofs.Counts.{ones_within, ones_fewer}
@@ -32,18 +31,7 @@ count_written seen word x within =
       | inr past ↦ let same : bit_count (set seen word x) ≡ bit_count seen = ap bit_count (set_past seen word x past) in omega arith
     ]
 
--- a list of which one word became one within it is within the list
-pub word_written : (seen : List ℕ) (word x : ℕ) → IsSubword x (get_or seen word 0) → AreWithin (set seen word x) seen
-word_written seen word x within k place =
-    elim (cases_lt word (length seen)) [
-      | inl inside ↦ by_place (λ (y : ℕ). bit_at y place ≤ bit_at (get_or seen k 0) place) seen word k x 0 inside
-          (λ same. let a : bit_at (get_or seen k 0) place ≡ bit_at (get_or seen word 0) place = ap (λ (i : ℕ). bit_at (get_or seen i 0) place) same in let b = within place in omega arith)
-          (λ differs. omega arith)
-      | inr past ↦
-          let same : bit_at (get_or (set seen word x) k 0) place ≡ bit_at (get_or seen k 0) place = ap (λ (ws : List ℕ). bit_at (get_or ws k 0) place) (set_past seen word x past) in
-          omega arith
-    ]
-
+-- of a word that was found a part was kept
 pub part_written : (seen : List ℕ) (word part found : ℕ) → IsSubword found (get_or seen word 0) → AreWithin (set seen word (bit_and found part)) seen
 part_written seen word part found within =
     word_written seen word (bit_and found part) (λ i. let a = within i in let b : bit_at (bit_and found part) i ≡ min (bit_at found i) (bit_at part i) = bit_at_and found part i in omega arith)
