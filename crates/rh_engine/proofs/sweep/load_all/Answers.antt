@@ -1,7 +1,5 @@
-use Rattle.std.proofs.Common.{◌≡◌, ◌∙◌, ◌*◌, ◌/◌, ◌<◌, ◌≤◌, ℕ, length, get_or, sym, arith, subst}
-use Rattle.std.specs.Int.{bit_at}
-use Rattle.rh_engine.specs.Turns.{word_before}
-use Rattle.rh_engine.proofs.Fewer.{all_loaded, round_ends, share_begins}
+use Rattle.std.proofs.Common.{◌∙◌, sym}
+use Rattle.rh_engine.proofs.Fewer.{all_loaded}
 use Rattle.rh_engine.proofs.sweep.load_all.Goals as goal
 
 pub returns-clause-loads : goal.returns-clause-loads
