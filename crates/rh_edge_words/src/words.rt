@@ -143,9 +143,9 @@ impl<'s, S: System, N: SystemName> EdgeWords<'s, S, N> {
         ensures greatest { HoldsGreatest N.meaning.rows seat.new.1.seen }
         ensures some { 0 < length seat.old.1.seen }
     {
-        let found = self.table.shared.load::<Looking<N>>(&mut seat.seat, 0);
-        seat.copy[0] = found;
-        found
+        let first = self.table.shared.load::<Looking<N>>(&mut seat.seat, 0);
+        seat.copy[0] = first;
+        first
     }
 
     /// Makes a second seat, with one of the stake and the same words seen. The memory for its copy

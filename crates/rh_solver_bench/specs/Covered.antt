@@ -1,5 +1,5 @@
 -- Each row's bit is one of the system.
-use Rattle.std.specs.Prelude.{ℕ, ◌*◌, ◌<◌, ◌≤◌, ◌/◌, ◌%◌, ◌^◌, ◌-◌, ◌==◌, ◌≡◌, ◌&&◌, Bool, true, false, zero, suc, replicate, IsTrue}
+use Rattle.std.specs.Prelude.{ℕ, ◌*◌, ◌<◌, ◌≤◌, ◌/◌, ◌%◌, ◌^◌, ◌-◌, ◌≡◌, true, zero, suc, replicate, IsTrue}
 use Rattle.std.specs.List.{list_all}
 use Rattle.std.specs.Int.{bit_at}
 use Rattle.std.proofs.Common.{get_or, refl, ap, arith, ◌∙◌}
