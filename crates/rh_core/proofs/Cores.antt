@@ -11,11 +11,12 @@ use Rattle.rh_system.specs.Rows.{supports, IsCovered, IsSupportedPart}
 use Rattle.rh_core.specs.declared.event.Event.{Event}
 use Rattle.rh_core.specs.declared.event.Event.TheVariants.{Load, And}
 use Rattle.rh_core.specs.State.{WorkerState, CoreState, newcomer, spent, opening, worker_at, IsLive}
-use Rattle.rh_core.specs.Moves.{saw, took, MayClear}
+use Rattle.rh_core.specs.Moves.{saw, took, MayClear, Move}
+use Rattle.rh_core.specs.Moves.{load, and}
 use Rattle.rh_core.specs.Events.{IsLawful, after, AreLawful, after_all}
 use Rattle.rh_core.specs.WordsLaw.{KeepsWords, IsCore}
 use Rattle.rh_core.proofs.Lists.{live_inside, by_place}
-use Rattle.rh_core.proofs.Keeps.{load_keeps, and_keeps, opening_keeps}
+use Rattle.rh_core.proofs.Keeps.{move_keeps, opening_keeps}
 
 pub opening_core : (full : List ℕ) (rows : List Row) (workers : ℕ) → IsCovered full rows → IsCore full rows (opening full workers)
 opening_core full rows workers covered = record {
@@ -25,9 +26,12 @@ opening_core full rows workers covered = record {
       ap (λ (w : WorkerState). w.live) (get_or-replicate workers j (newcomer full) spent (omega arith));
 }
 
-pub event_keeps : (full : List ℕ) (rows : List Row) (s : CoreState) (event : Event) → KeepsWords full rows s → IsLawful rows s event → KeepsWords full rows (after s event)
-event_keeps full rows s (Load worker word) kept lawful = load_keeps s worker word kept lawful.0 lawful.1
-event_keeps full rows s (And worker word mask) kept lawful = and_keeps s worker word mask kept lawful.0 lawful.1 lawful.2 lawful.3
+pub event_moves : (rows : List Row) (s : CoreState) (event : Event) → IsLawful rows s event → Move rows s (after s event)
+event_moves rows s (Load worker word) lawful = load worker word lawful.0 lawful.1
+event_moves rows s (And worker word mask) lawful = and worker word mask lawful.0 lawful.1 lawful.2 lawful.3
+
+event_keeps : (full : List ℕ) (rows : List Row) (s : CoreState) (event : Event) → KeepsWords full rows s → IsLawful rows s event → KeepsWords full rows (after s event)
+event_keeps full rows s event kept lawful = move_keeps s (after s event) (event_moves rows s event lawful) kept
 
 pub events_keep : (full : List ℕ) (rows : List Row) (s : CoreState) (events : List Event) → KeepsWords full rows s → AreLawful rows s events → KeepsWords full rows (after_all s events)
 events_keep full rows s [] kept lawful = kept

@@ -1,8 +1,8 @@
 -- Every lawful move keeps the words law.
 use Rattle.std.proofs.Common.{◌≡◌, ◌≢◌, ℕ, ◌+◌, ◌*◌, ◌/◌, ◌%◌, ◌^◌, ◌<◌, ◌≤◌, ◌⊎◌, inl, inr, Bool, true, false, IsTrue, List, [], ◌∷◌, ◌++◌, length, get_or, set, replicate, bit_and, bit_or, min, refl, sym, ap, subst, arith, ◌∙◌, sum_by, length-set}
 use Rattle.std.specs.Int.{bit_at}
-use Rattle.std.proofs.lemmas.Bool.{cases_eq}
-use Rattle.std.proofs.lemmas.List.{get_or-set_same, get_or-set_other, length-replicate}
+use Rattle.std.proofs.lemmas.Bool.{cases_eq, cases_lt}
+use Rattle.std.proofs.lemmas.List.{set_past, get_or-set_same, get_or-set_other, length-replicate}
 use Rattle.std.proofs.lemmas.List.Sums.{sum_by-set, sum_by_push, get_or-le-sum_by}
 use Rattle.std.proofs.lemmas.Nat.Bits.{bit_at-lt, bit_at-zero, bit_at_and}
 use Rattle.rh_system.specs.declared.system.Row.{Row}
@@ -25,6 +25,18 @@ wider words seen within bit h =
     let le : bit_at (get_or words (bit / 64) 0) (bit % 64) ≤ bit_at (get_or seen (bit / 64) 0) (bit % 64) = within (bit / 64) (bit % 64) in
     let lt = bit_at-lt (get_or seen (bit / 64) 0) (bit % 64) in
     bits_in_from seen bit (omega arith)
+
+-- a list of which one word became a part of it
+pub word_written : (seen : List ℕ) (word x : ℕ) → IsSubword x (get_or seen word 0) → (k : ℕ) → IsSubword (get_or (set seen word x) k 0) (get_or seen k 0)
+word_written seen word x within k place =
+    elim (cases_lt word (length seen)) [
+      | inl inside ↦ by_place (λ (y : ℕ). bit_at y place ≤ bit_at (get_or seen k 0) place) seen word k x 0 inside
+          (λ same. let a : bit_at (get_or seen k 0) place ≡ bit_at (get_or seen word 0) place = ap (λ (i : ℕ). bit_at (get_or seen i 0) place) same in let b = within place in omega arith)
+          (λ differs. omega arith)
+      | inr past ↦
+          let same : bit_at (get_or (set seen word x) k 0) place ≡ bit_at (get_or seen k 0) place = ap (λ (ws : List ℕ). bit_at (get_or ws k 0) place) (set_past seen word x past) in
+          omega arith
+    ]
 
 both_off : {b : Bool} → b ≡ true → b ≡ false → ⊥
 both_off {b} on off = let e : true ≡ false = sym on ∙ off in cc
@@ -115,7 +127,7 @@ module _ {full : List ℕ} {rows : List Row} where
 
   -- ---- load
 
-  pub load_keeps : (s : CoreState) (worker word : ℕ) → KeepsWords full rows s → IsLive s worker → word < length s.words → KeepsWords full rows (loaded s worker word)
+  load_keeps : (s : CoreState) (worker word : ℕ) → KeepsWords full rows s → IsLive s worker → word < length s.words → KeepsWords full rows (loaded s worker word)
   load_keeps s worker word kept live inside =
       let w = worker_at s worker in
       let w' : WorkerState = saw w word (get_or s.words word 0) in
@@ -204,7 +216,7 @@ module _ {full : List ℕ} {rows : List Row} where
       let now : holders (anded s worker word mask) k place ≡ bit_at (get_or full k 0) place = omega arith in
       now
 
-  pub and_keeps : (s : CoreState) (worker word mask : ℕ) → KeepsWords full rows s → IsLive s worker → word < length s.words → mask < 2 ^ 64 → MayClear rows (worker_at s worker).seen word mask
+  and_keeps : (s : CoreState) (worker word mask : ℕ) → KeepsWords full rows s → IsLive s worker → word < length s.words → mask < 2 ^ 64 → MayClear rows (worker_at s worker).seen word mask
       → KeepsWords full rows (anded s worker word mask)
   and_keeps s worker word mask kept live inside fits may =
       let w = worker_at s worker in
@@ -225,7 +237,7 @@ module _ {full : List ℕ} {rows : List Row} where
 
   -- ---- split
 
-  pub split_keeps : (s : CoreState) (worker : ℕ) → KeepsWords full rows s → IsLive s worker → KeepsWords full rows (divided s worker)
+  split_keeps : (s : CoreState) (worker : ℕ) → KeepsWords full rows s → IsLive s worker → KeepsWords full rows (divided s worker)
   split_keeps s worker kept live =
       let w = worker_at s worker in
       let child : WorkerState = newcomer w.seen in
@@ -273,7 +285,7 @@ module _ {full : List ℕ} {rows : List Row} where
       let now : bit_at (get_or s.words k 0) place + sum_by f (set (set s.workers worker r) other spent) ≡ bit_at (get_or full k 0) place = omega arith in
       now
 
-  pub join_keeps : (s : CoreState) (worker other : ℕ) → KeepsWords full rows s → worker ≢ other → IsLive s worker → IsLive s other → KeepsWords full rows (joined s worker other)
+  join_keeps : (s : CoreState) (worker other : ℕ) → KeepsWords full rows s → worker ≢ other → IsLive s worker → IsLive s other → KeepsWords full rows (joined s worker other)
   join_keeps s worker other kept differ live other_live =
       let w = worker_at s worker in
       let v = worker_at s other in

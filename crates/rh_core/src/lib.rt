@@ -3,9 +3,7 @@
 
 mod event;
 mod pure;
-#[cfg(test)]
-mod tests;
 mod worker;
 
 pub use event::Event;
-pub use pure::{Core, words_law};
+pub use pure::{Core, moves_law, words_law};

@@ -1,8 +1,8 @@
 //! The core itself.
 ghost use Rattle.std.specs.Prelude.{◌≡◌, ◌↔◌, ◌<◌, ◌≤◌, ℕ, List, IfOk, IsTrue, length, slice_index};
-ghost use Rattle.rh_core.specs.State.{opening, worker_at, IsLive};
+ghost use Rattle.rh_core.specs.State.{CoreState, opening, worker_at, IsLive};
 ghost use Rattle.rh_core.specs.declared.event.Event.{Event};
-ghost use Rattle.rh_core.specs.Moves.{MayClear};
+ghost use Rattle.rh_core.specs.Moves.{Move, MayClear};
 ghost use Rattle.rh_core.specs.Events.{IsLawful, after, AreLawful, after_all};
 ghost use Rattle.rh_core.specs.WordsLaw.{KeepsWords};
 
@@ -149,4 +149,11 @@ fn none_supported<S: System>(system: &S, seen: &[u64], word: u32, mask: u64) -> 
 /// A law: the words law holds after every list of lawful events.
 pub fn words_law<S: System>(_system: &S)
     ensures { (workers : ℕ) (events : List Event) → AreLawful (S.rows _system.now) (opening (S.full_words _system.now) workers) events → KeepsWords (S.full_words _system.now) (S.rows _system.now) (after_all (opening (S.full_words _system.now) workers) events) }
+{}
+
+/// A law: each of the four moves keeps the words law, from every state, and each lawful event is a
+/// move.
+pub fn moves_law<S: System>(_system: &S)
+    ensures keeps { (s t : CoreState) → Move (S.rows _system.now) s t → KeepsWords (S.full_words _system.now) (S.rows _system.now) s → KeepsWords (S.full_words _system.now) (S.rows _system.now) t }
+    ensures events { (s : CoreState) (event : Event) → IsLawful (S.rows _system.now) s event → Move (S.rows _system.now) s (after s event) }
 {}

@@ -1,5 +1,5 @@
 -- Each step of a seat keeps the rule.
-use Rattle.std.proofs.Common.{◌≡◌, ℕ, ◌+◌, ◌^◌, ◌<◌, ◌≤◌, List, length, get_or, set, map, bit_and, refl, sym, ap, subst, arith, sum_by, length-set}
+use Rattle.std.proofs.Common.{◌≡◌, ℕ, ◌+◌, ◌^◌, ◌<◌, ◌≤◌, List, length, get_or, set, map, bit_and, refl, sym, ap, subst, arith, ◌∙◌, sum_by, length-set}
 use mathlib.Core.Option.{some, none}
 use lib.ListN.{get_elem?}
 use Rattle.std.specs.Int.{bit_at}
@@ -10,28 +10,29 @@ use Rattle.atomic_table.specs.Table.{State, Me, step, keeps, Allows}
 use Rattle.atomic_table.proofs.Lists.{set_here}
 use Rattle.rh_system.specs.Bits.{IsSubword}
 use Rattle.rh_core.specs.State.{WorkerState, spent, worker_at}
-use Rattle.rh_core.specs.Moves.{saw, took, taken, MayClear}
+use Rattle.rh_core.specs.Moves.{saw, taken, MayClear}
 use Rattle.rh_core.specs.WordsLaw.{KeepsWords}
 use Rattle.rh_core.proofs.Lists.{parted, live_inside}
-use Rattle.rh_core.proofs.Keeps.{load_keeps, and_keeps}
+use Rattle.rh_core.proofs.Keeps.{move_keeps}
 use Rattle.rh_edge_words.specs.declared.view.View.{View}
 use Rattle.rh_edge_words.specs.Meaning.{Meaning}
-use Rattle.rh_edge_words.specs.Views.{worker_of, after_look, after_load, after_clear}
-use Rattle.rh_edge_words.specs.Rule.{core_of, IsTallied, KeepsTable}
-use Rattle.rh_edge_words.specs.Steps.{Finds, Looks, Loads, Clears}
-use Rattle.rh_edge_words.proofs.Tables.{at_view, worker_is, live_at, knows, stake_fits, tally, step_keeps}
+use Rattle.rh_edge_words.specs.Views.{worker_of, spent_view, after_look, after_load, after_clear}
+use Rattle.rh_edge_words.specs.Rule.{core_with, core_of, IsTallied, KeepsTable}
+use Rattle.rh_edge_words.specs.Steps.{Finds, Tells, Looks, Loads, Clears}
+use Rattle.rh_edge_words.proofs.Tables.{at_view, stake_at, worker_is, live_at, knows, stake_fits, tally, step_keeps}
+use Rattle.rh_edge_words.proofs.StepMoves.{read_move, clear_move}
 use Rattle.rh_edge_words.proofs.Tallies.{same_tally, clear_tally}
 
 module _ {S : Type 0} (m : Meaning) where
-  -- the core after a load
-  read_core : (s : State S View) (id word : ℕ) (v : View) → KeepsTable m s → get_elem? s.views id ≡ some v → 0 < v.stake → word < length m.full
-      → KeepsWords m.full m.rows record { words = set s.words word (get_or s.words word 0); workers = set (map worker_of s.views) id (saw (worker_of v) word (get_or s.words word 0)) }
-  read_core s id word v kept e some_stake inside =
+  -- the core after a word was read
+  read_core : (s : State S View) (id word : ℕ) (v w : View) → KeepsTable m s → get_elem? s.views id ≡ some v → 0 < v.stake → word < length m.full → worker_of w ≡ saw (worker_of v) word (get_or s.words word 0)
+      → KeepsWords m.full m.rows (core_with (set s.words word (get_or s.words word 0)) (set s.views id w))
+  read_core s id word v w kept e some_stake inside sees =
       let long : length s.words ≡ length m.full = kept.core.as_long in
-      let moved = load_keeps (core_of s) id word kept.core (live_at s.words s.views id v e some_stake) (omega arith) in
-      let P : List ℕ → WorkerState → Type 0 =
-      λ ws w. KeepsWords m.full m.rows record { words = ws; workers = set (map worker_of s.views) id (saw w word (get_or s.words word 0)) } in
-      subst (λ (ws : List ℕ). P ws (worker_of v)) (sym (set-get_or s.words word 0)) (subst (P s.words) (worker_is s.words s.views id v e) moved)
+      let here : worker_of w ≡ saw (worker_of (get_or s.views id spent_view)) word (get_or s.words word 0) =
+      sees ∙ ap (λ (u : View). saw (worker_of u) word (get_or s.words word 0)) (sym (at_view s.views id v e).1) in
+      let moved = move_keeps (core_of s) _ (read_move m.rows s.words s.views id (stake_at s.views id v e some_stake) word w here (omega arith)) kept.core in
+      subst (λ (ws : List ℕ). KeepsWords m.full m.rows (core_with ws (set s.views id w))) (sym (set-get_or s.words word 0)) moved
 
   within_seen : (s : State S View) (id word : ℕ) (v : View) → KeepsTable m s → get_elem? s.views id ≡ some v → 0 < v.stake → IsSubword (get_or s.words word 0) (get_or v.seen word 0)
   within_seen s id word v kept e some_stake =
@@ -53,36 +54,38 @@ module _ {S : Type 0} (m : Meaning) where
         counted = tallied.counted;
       }
 
-  pub allows_look : (slots id word : ℕ) (me : Me S View) → 0 < me.0.stake → word < length m.full
-      → Allows (KeepsTable m) slots id me word (λ n. n) (Looks m (step slots word 0 0 none) me)
-  allows_look slots id word me some_stake inside s kept homes e small =
+  -- a word is read, and the seat counts the read in its way
+  allows_read : (slots id word : ℕ) (me : Me S View) (next : ℕ → View) → ((n : ℕ) → worker_of (next n) ≡ saw (worker_of me.0) word n) → ((n : ℕ) → (next n).stake ≡ me.0.stake)
+      → ((n : ℕ) → IsTallied m.full me.0 → IsTallied m.full (next n)) → 0 < me.0.stake → word < length m.full → Allows (KeepsTable m) slots id me word (λ n. n) (λ n after. Tells m word me n (next n) after)
+  allows_read slots id word me next sees stays tallies some_stake inside s kept homes e small =
       let v = me.0 in
       let n : ℕ = get_or s.words word 0 in
-      let w : View = after_look v word n in
-      let after = step_keeps m s (set s.words word n) id v w kept e refl (same_tally m.full v w (tally m s id v kept e) some_stake some_stake refl refl refl) (read_core s id word v kept e some_stake inside) in
-      (w, keeps, tt, after, record { view = refl; carried = refl; finds = found s (set s.words word n) id word v w kept e some_stake refl after })
+      let w : View = next n in
+      let after = step_keeps m s (set s.words word n) id v w kept e (stays n) (tallies n (tally m s id v kept e)) (read_core s id word v w kept e some_stake inside (sees n)) in
+      (w, keeps, tt, after, record { view = refl; carried = refl; finds = found s (set s.words word n) id word v w kept e some_stake (stays n) after })
+
+  pub allows_look : (slots id word : ℕ) (me : Me S View) → 0 < me.0.stake → word < length m.full
+      → Allows (KeepsTable m) slots id me word (λ n. n) (Looks m (step slots word 0 0 none) me)
+  allows_look slots id word me some_stake inside =
+      allows_read slots id word me (after_look me.0 word) (λ n. refl) (λ n. refl) (λ n t. same_tally m.full me.0 (after_look me.0 word n) t some_stake some_stake refl refl refl) some_stake inside
 
   pub allows_load : (slots id word : ℕ) (me : Me S View) → 0 < me.0.stake → word < length m.full
       → Allows (KeepsTable m) slots id me word (λ n. n) (Loads m (step slots word 0 0 none) me)
-  allows_load slots id word me some_stake inside s kept homes e small =
-      let v = me.0 in
-      let n : ℕ = get_or s.words word 0 in
-      let w : View = after_load v word n in
-      let after = step_keeps m s (set s.words word n) id v w kept e refl (same_tally m.full v w (tally m s id v kept e) some_stake some_stake refl refl (length-set v.loads word (get_or v.loads word 0 + 1))) (read_core s id word v kept e some_stake inside) in
-      (w, keeps, tt, after, record { view = refl; carried = refl; finds = found s (set s.words word n) id word v w kept e some_stake refl after })
+  allows_load slots id word me some_stake inside =
+      allows_read slots id word me (after_load me.0 word) (λ n. refl) (λ n. refl)
+      (λ n t. same_tally m.full me.0 (after_load me.0 word n) t some_stake some_stake refl refl (length-set me.0.loads word (get_or me.0.loads word 0 + 1))) some_stake inside
 
   -- ---- clear
 
   cleared_core : (s : State S View) (id word mask : ℕ) (v : View) → KeepsTable m s → get_elem? s.views id ≡ some v → 0 < v.stake → word < length m.full → mask < 2 ^ 64 → MayClear m.rows v.seen word mask
-      → KeepsWords m.full m.rows record { words = set s.words word (bit_and (get_or s.words word 0) mask); workers = set (map worker_of s.views) id (took (worker_of v) word (get_or s.words word 0) mask) }
+      → KeepsWords m.full m.rows (core_with (set s.words word (bit_and (get_or s.words word 0) mask)) (set s.views id (after_clear v word mask (get_or s.words word 0))))
   cleared_core s id word mask v kept e some_stake inside fits may =
       let long : length s.words ≡ length m.full = kept.core.as_long in
-      let is = worker_is s.words s.views id v e in
-      let may' : MayClear m.rows (worker_at (core_of s) id).seen word mask = subst (λ (w : WorkerState). MayClear m.rows w.seen word mask) (sym is) may in
-      let moved = and_keeps (core_of s) id word mask kept.core (live_at s.words s.views id v e some_stake) (omega arith) fits may' in
-      subst
-      (λ (w : WorkerState). KeepsWords m.full m.rows record { words = set s.words word (bit_and (get_or s.words word 0) mask); workers = set (map worker_of s.views) id (took w word (get_or s.words word 0) mask) })
-      is moved
+      let is = (at_view s.views id v e).1 in
+      let n : ℕ = get_or s.words word 0 in
+      let may' : MayClear m.rows (get_or s.views id spent_view).seen word mask = subst (λ (u : View). MayClear m.rows u.seen word mask) (sym is) may in
+      let P : View → Type 0 = λ u. KeepsWords m.full m.rows (core_with (set s.words word (bit_and n mask)) (set s.views id (after_clear u word mask n))) in
+      subst P is (move_keeps (core_of s) _ (clear_move m.rows s.words s.views id (stake_at s.views id v e some_stake) word mask (omega arith) fits may') kept.core)
 
   -- what is taken is not in the seat's credits yet
   taken_apart : (s : State S View) (id word mask place : ℕ) (v : View) → KeepsTable m s → get_elem? s.views id ≡ some v → 0 < v.stake → mask < 2 ^ 64 → place < 64

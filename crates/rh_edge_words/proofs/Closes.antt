@@ -10,7 +10,7 @@ use Rattle.std.proofs.lemmas.List.Elements.{All-from_get_or}
 use Rattle.std.proofs.lemmas.List.Sums.{sum_by-set, sum_by-cons, sum_by-le}
 use Rattle.std.proofs.lemmas.Nat.Bits.{bit_at-lt, bit_at-zero}
 use Rattle.atomic_table.specs.Table.{State}
-use Rattle.rh_system.specs.Bits.{bits_in, bit_count}
+use Rattle.rh_system.specs.Bits.{bits_in}
 use Rattle.rh_system.specs.Rows.{IsGreatest}
 use Rattle.rh_system.proofs.Supports.{bits_in_at, set_from_test, test_from_set}
 use Rattle.rh_core.specs.State.{WorkerState, spent, worker_at}
@@ -19,6 +19,7 @@ use Rattle.rh_edge_words.specs.declared.view.View.{View}
 use Rattle.rh_edge_words.specs.Meaning.{Meaning}
 use Rattle.rh_edge_words.specs.Views.{worker_of, spent_view}
 use Rattle.rh_edge_words.specs.Rule.{core_of, KeepsTable}
+use Rattle.rh_edge_words.specs.Seated.{ArePartsOf}
 use Rattle.rh_edge_words.proofs.Counts.{over, over_same, over_sum, ones_over}
 use Rattle.rh_edge_words.proofs.Tables.{at_view, worker_is, live_at}
 
@@ -34,7 +35,7 @@ only f xs i d inside none others =
 
 -- words whose bits are shared out between two others
 pub counts_parted : (xs ys zs : List ℕ) → length xs ≡ length zs → length ys ≡ length zs → ((k : ℕ) → get_or xs k 0 < 2 ^ 64) → ((k : ℕ) → get_or ys k 0 < 2 ^ 64) → ((k : ℕ) → get_or zs k 0 < 2 ^ 64)
-    → ((k place : ℕ) → place < 64 → bit_at (get_or xs k 0) place + bit_at (get_or ys k 0) place ≡ bit_at (get_or zs k 0) place) → sum_by count_ones xs + sum_by count_ones ys ≡ sum_by count_ones zs
+    → ArePartsOf xs ys zs → sum_by count_ones xs + sum_by count_ones ys ≡ sum_by count_ones zs
 counts_parted [] [] [] a b p q r parted = refl
 counts_parted (x ∷ xs) ys [] a b p q r parted = absurd (omega arith)
 counts_parted [] (y ∷ ys) [] a b p q r parted = absurd (omega arith)
@@ -112,8 +113,6 @@ module _ {S : Type 0} (m : Meaning) (s : State S View) (id : ℕ) (v : View) (ke
         | inr none ↦ omega arith
       ]
 
-  pub closes : length v.seen ≡ length m.full → length v.credits ≡ length m.full → ((k : ℕ) → get_or v.seen k 0 < 2 ^ 64) → ((k : ℕ) → get_or v.credits k 0 < 2 ^ 64) → ((k : ℕ) → get_or m.full k 0 < 2 ^ 64)
-      → IsGreatest m.rows v.seen → bit_count v.credits + bit_count v.seen ≡ bit_count m.full
-  closes seen_long credits_long seen_fit credits_fit full_fit greatest =
-      counts_parted v.credits v.seen m.full credits_long seen_long credits_fit seen_fit full_fit
-      (λ k place small. let a = seen_last greatest k place small in let b = shared_out k place small in omega arith)
+  -- where the seat has seen Greatest, each full bit is in its credits or in Greatest
+  pub parts : IsGreatest m.rows v.seen → ArePartsOf v.credits v.seen m.full
+  parts greatest k place small = let a = seen_last greatest k place small in let b = shared_out k place small in omega arith

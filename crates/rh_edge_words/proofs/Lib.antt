@@ -1,6 +1,7 @@
 pub mod Counts
 pub mod Tallies
 pub mod Tables
+pub mod StepMoves
 pub mod Allowed
 pub mod Seats
 pub mod Opens

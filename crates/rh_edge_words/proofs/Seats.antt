@@ -1,24 +1,22 @@
 -- A seat after a step.
 use Rattle.std.proofs.Common.{◌≡◌, subst, ℕ, ◌+◌, ◌*◌, ◌^◌, ◌<◌, ◌≤◌, List, length, get_or, set, bit_and, bit_or, sym, ap, arith, ◌∙◌, length-set}
-use mathlib.Core.Option.{none}
 use Rattle.std.specs.Int.RustNames.{count_ones}
 use Rattle.std.proofs.lemmas.List.Elements.{All-from_get_or}
 use Rattle.std.proofs.lemmas.List.Sums.{sum_by-le}
 use Rattle.std.proofs.lemmas.Nat.{ones-le}
-use Rattle.atomic_table.specs.Table.{Me, step}
-use Rattle.rh_system.specs.Bits.{bit_count}
+use Rattle.atomic_table.specs.Table.{Me}
+use Rattle.rh_system.specs.Bits.{IsSubword, bit_count}
 use Rattle.rh_core.specs.Moves.{taken}
-use Rattle.std.proofs.Common.{inl, inr, min}
+use Rattle.std.proofs.Common.{min}
 use Rattle.std.specs.Int.{bit_at}
-use Rattle.std.proofs.lemmas.Bool.{cases_lt}
-use Rattle.std.proofs.lemmas.List.{set_past}
 use Rattle.std.proofs.lemmas.Nat.Bits.{bit_at_and}
-use Rattle.rh_core.proofs.Lists.{by_place, united_length}
+use Rattle.rh_core.proofs.Lists.{united_length}
+use Rattle.rh_core.proofs.Keeps.{word_written}
 use Rattle.rh_edge_words.proofs.Tallies.{sums_length}
 use Rattle.rh_edge_words.specs.declared.view.View.{View}
 use Rattle.rh_edge_words.specs.Meaning.{Meaning}
-use Rattle.rh_edge_words.specs.Views.{after_look, both_views}
-use Rattle.rh_edge_words.specs.Steps.{Finds, Looks, Loads, Clears}
+use Rattle.rh_edge_words.specs.Views.{after_look, after_load, after_clear, both_views}
+use Rattle.rh_edge_words.specs.Steps.{Finds, Tells}
 use Rattle.rh_edge_words.specs.Seated.{IsSeated, IsSeat}
 
 -- a count of credits is far from the largest number
@@ -31,20 +29,17 @@ count_small m v seated =
     omega arith
 
 -- a word that became less than it was is still within others
-written_within : (seen full : List ℕ) (word x k place : ℕ) → bit_at x place ≤ bit_at (get_or seen word 0) place → ((j : ℕ) → bit_at (get_or seen j 0) place ≤ bit_at (get_or full j 0) place)
+written_within : (seen full : List ℕ) (word x k place : ℕ) → IsSubword x (get_or seen word 0) → ((j : ℕ) → bit_at (get_or seen j 0) place ≤ bit_at (get_or full j 0) place)
     → bit_at (get_or (set seen word x) k 0) place ≤ bit_at (get_or full k 0) place
 written_within seen full word x k place less within =
-    elim (cases_lt word (length seen)) [
-      | inl inside ↦ by_place (λ (y : ℕ). bit_at y place ≤ bit_at (get_or full k 0) place) seen word k x 0 inside
-          (λ same. let a : bit_at (get_or seen k 0) place ≡ bit_at (get_or seen word 0) place = ap (λ (i : ℕ). bit_at (get_or seen i 0) place) same in let b = within k in omega arith)
-          (λ differs. within k)
-      | inr past ↦ subst (λ (ws : List ℕ). bit_at (get_or ws k 0) place ≤ bit_at (get_or full k 0) place) (sym (set_past seen word x past)) (within k)
-    ]
+    let a : bit_at (get_or (set seen word x) k 0) place ≤ bit_at (get_or seen k 0) place = word_written seen word x less k place in
+    let b : bit_at (get_or seen k 0) place ≤ bit_at (get_or full k 0) place = within k in
+    omega arith
 
 module _ {S : Type 0} (m : Meaning) where
-  pub cleared_seat : (slots word mask found count : ℕ) (me after : Me S View) (copy : List ℕ) (cleared stake : ℕ) → IsSeat m me.0 me.1 copy cleared stake → Clears m (step slots word mask 0 none) me found after
+  pub cleared_seat : (word mask found count : ℕ) (me after : Me S View) (copy : List ℕ) (cleared stake : ℕ) → IsSeat m me.0 me.1 copy cleared stake → Tells m word me found (after_clear me.0 word mask found) after
       → count ≡ count_ones (taken found mask) → IsSeat m after.0 after.1 (set copy word (bit_and found mask)) (cleared + count) stake
-  cleared_seat slots word mask found count me after copy cleared stake seat tells count_is =
+  cleared_seat word mask found count me after copy cleared stake seat tells count_is =
       let v = me.0 in
       let seated = seat.seated in
       let is = tells.view in
@@ -64,7 +59,7 @@ module _ {S : Type 0} (m : Meaning) where
           few = seated.few;
           greatest = tells.finds.greatest;
           within = subst (λ (u : View). (k place : ℕ) → bit_at (get_or u.seen k 0) place ≤ bit_at (get_or m.full k 0) place) (sym is)
-              (λ k place. written_within v.seen m.full word (bit_and found mask) k place (let a = tells.finds.within place in let b : bit_at (bit_and found mask) place ≡ min (bit_at found place) (bit_at mask place) = bit_at_and found mask place in omega arith) (λ j. seated.within j place));
+              (λ k place. written_within v.seen m.full word (bit_and found mask) k place (λ i. let a = tells.finds.within i in let b : bit_at (bit_and found mask) i ≡ min (bit_at found i) (bit_at mask i) = bit_at_and found mask i in omega arith) (λ j. seated.within j place));
         };
         empty = tells.carried ∙ seat.empty;
         copied = ap (λ (c : List ℕ). set c word (bit_and found mask)) seat.copied ∙ sym (ap (λ (u : View). u.seen) is);
@@ -90,7 +85,7 @@ module _ {S : Type 0} (m : Meaning) where
           few = seated.few;
           greatest = finds.greatest;
           within = subst (λ (ws : List ℕ). (k place : ℕ) → bit_at (get_or ws k 0) place ≤ bit_at (get_or m.full k 0) place) (sym seen)
-              (λ k place. written_within v.seen m.full word found k place (finds.within place) (λ j. seated.within j place));
+              (λ k place. written_within v.seen m.full word found k place finds.within (λ j. seated.within j place));
         };
         empty = kept ∙ seat.empty;
         copied = ap (λ (c : List ℕ). set c word found) seat.copied ∙ sym seen;
@@ -98,24 +93,24 @@ module _ {S : Type 0} (m : Meaning) where
         staked = seat.staked ∙ sym same;
       }
 
-  pub loaded_seat : (slots word found : ℕ) (me after : Me S View) (copy : List ℕ) (cleared stake : ℕ) → IsSeat m me.0 me.1 copy cleared stake → Loads m (step slots word 0 0 none) me found after
+  pub loaded_seat : (word found : ℕ) (me after : Me S View) (copy : List ℕ) (cleared stake : ℕ) → IsSeat m me.0 me.1 copy cleared stake → Tells m word me found (after_load me.0 word found) after
       → IsSeat m after.0 after.1 (set copy word found) cleared stake
-  loaded_seat slots word found me after copy cleared stake seat tells =
+  loaded_seat word found me after copy cleared stake seat tells =
       let is = tells.view in
       read_seat word found me.0 after.0 me.1 after.1 copy cleared stake seat (ap (λ (u : View). u.seen) is) (ap (λ (u : View). u.credits) is) (ap (λ (u : View). u.count) is) (ap (λ (u : View). u.stake) is)
       (ap (λ (u : View). length u.loads) is ∙ length-set me.0.loads word (get_or me.0.loads word 0 + 1)) tells.carried tells.finds
 
-  pub looked_seat : (slots word found : ℕ) (me after : Me S View) (copy : List ℕ) (cleared stake : ℕ) → IsSeat m me.0 me.1 copy cleared stake → Looks m (step slots word 0 0 none) me found after
+  pub looked_seat : (word found : ℕ) (me after : Me S View) (copy : List ℕ) (cleared stake : ℕ) → IsSeat m me.0 me.1 copy cleared stake → Tells m word me found (after_look me.0 word found) after
       → IsSeat m after.0 after.1 (set copy word found) cleared stake
-  looked_seat slots word found me after copy cleared stake seat tells =
+  looked_seat word found me after copy cleared stake seat tells =
       let is = tells.view in
       read_seat word found me.0 after.0 me.1 after.1 copy cleared stake seat (ap (λ (u : View). u.seen) is) (ap (λ (u : View). u.credits) is) (ap (λ (u : View). u.count) is) (ap (λ (u : View). u.stake) is)
       (ap (λ (u : View). length u.loads) is) tells.carried tells.finds
 
   -- a seat that took in another, and then read word 0
-  pub joined_seat : (slots found : ℕ) (me other mid after : Me S View) (copy : List ℕ) (cleared stake : ℕ) (copy' : List ℕ) (cleared' stake' : ℕ) → IsSeat m me.0 me.1 copy cleared stake → IsSeat m other.0 other.1 copy' cleared' stake'
-      → mid ≡ (both_views me.0 other.0, me.1) → Looks m (step slots 0 0 0 none) mid found after → IsSeat m after.0 after.1 (set copy 0 found) (cleared + cleared') (stake + stake')
-  joined_seat slots found me other mid after copy cleared stake copy' cleared' stake' seat seat' joined tells =
+  pub joined_seat : (found : ℕ) (me other mid after : Me S View) (copy : List ℕ) (cleared stake : ℕ) (copy' : List ℕ) (cleared' stake' : ℕ) → IsSeat m me.0 me.1 copy cleared stake → IsSeat m other.0 other.1 copy' cleared' stake'
+      → mid ≡ (both_views me.0 other.0, me.1) → Tells m 0 mid found (after_look mid.0 0 found) after → IsSeat m after.0 after.1 (set copy 0 found) (cleared + cleared') (stake + stake')
+  joined_seat found me other mid after copy cleared stake copy' cleared' stake' seat seat' joined tells =
       let v = me.0 in
       let w = other.0 in
       let is : after.0 ≡ after_look (both_views v w) 0 found = tells.view ∙ ap (λ (p : Me S View). after_look p.0 0 found) joined in
@@ -139,7 +134,7 @@ module _ {S : Type 0} (m : Meaning) where
           greatest = tells.finds.greatest;
           within = subst (λ (u : View). (k place : ℕ) → bit_at (get_or u.seen k 0) place ≤ bit_at (get_or m.full k 0) place) (sym is)
               (λ k place. written_within v.seen m.full 0 found k place
-              (subst (λ (u : View). bit_at found place ≤ bit_at (get_or u.seen 0 0) place) (ap (λ (x : Me S View). x.0) joined) (tells.finds.within place)) (λ j. seat.seated.within j place));
+              (subst (λ (u : View). IsSubword found (get_or u.seen 0 0)) (ap (λ (x : Me S View). x.0) joined) tells.finds.within) (λ j. seat.seated.within j place));
         };
         empty = tells.carried ∙ (ap (λ (x : Me S View). x.1) joined ∙ seat.empty);
         copied = ap (λ (c : List ℕ). set c 0 found) seat.copied ∙ sym (ap (λ (u : View). u.seen) is);

@@ -1,30 +1,24 @@
 -- A seat that splits, and one that takes in another.
-use Rattle.std.proofs.Common.{◌≡◌, ◌≢◌, ℕ, ◌+◌, ◌-◌, ◌<◌, ◌≤◌, Bool, List, [], ◌∷◌, ◌++◌, length, get_or, set, map, refl, sym, ap, subst, arith, ◌∙◌, sum_by, length-set, nat_lt}
+use Rattle.std.proofs.Common.{◌≡◌, ◌≢◌, ℕ, ◌+◌, ◌-◌, ◌<◌, ◌≤◌, List, [], ◌∷◌, ◌++◌, length, get_or, set, map, refl, sym, ap, subst, arith, ◌∙◌, sum_by, length-set}
 use mathlib.Core.Option.{some}
 use lib.ListN.{get_elem?}
 use Rattle.std.specs.Int.{bit_at}
-use Rattle.std.proofs.lemmas.List.{map-append, map-set, set-get_or, get_or-set_other}
+use Rattle.std.proofs.lemmas.List.{get_or-set_other}
 use Rattle.std.proofs.lemmas.List.Sums.{sum_by-set, sum_by_push}
 use Rattle.std.proofs.lemmas.Nat.Bits.{bit_at-lt, bit_at-zero}
 use Rattle.atomic_table.specs.Table.{State, Splits, Joins}
 use Rattle.atomic_table.proofs.Lists.{set_else}
-use Rattle.rh_core.specs.State.{WorkerState, newcomer, spent, worker_at}
-use Rattle.rh_core.specs.Moves.{united, richer}
+use Rattle.rh_core.specs.State.{WorkerState, spent, worker_at}
 use Rattle.rh_core.specs.WordsLaw.{KeepsWords}
 use Rattle.rh_core.proofs.Lists.{by_place, by_push, two_of, live_inside}
-use Rattle.rh_core.proofs.Keeps.{split_keeps, join_keeps}
+use Rattle.rh_core.proofs.Keeps.{move_keeps}
 use Rattle.rh_edge_words.specs.declared.view.View.{View}
 use Rattle.rh_edge_words.specs.Meaning.{Meaning}
 use Rattle.rh_edge_words.specs.Views.{worker_of, spent_view, poorer, new_view, both_views}
-use Rattle.rh_edge_words.specs.Rule.{core_of, IsTallied, KeepsTable}
+use Rattle.rh_edge_words.specs.Rule.{core_with, core_of, IsTallied, KeepsTable}
 use Rattle.rh_edge_words.proofs.Tallies.{spent_tallied, same_tally, new_tally, both_tally}
-use Rattle.rh_edge_words.proofs.Tables.{at_view, above_zero, worker_is, live_at, tally}
-
--- a worker is live with whatever stake it has
-same_worker : (v : View) (stake : ℕ) (credits : List ℕ) → 0 < v.stake → 0 < stake
-    → (let w : WorkerState = record { live = nat_lt 0 stake; seen = v.seen; credits = credits } in w) ≡ (let w : WorkerState = record { live = nat_lt 0 v.stake; seen = v.seen; credits = credits } in w)
-same_worker v stake credits some_stake still =
-    ap (λ (b : Bool). let w : WorkerState = record { live = b; seen = v.seen; credits = credits } in w) (above_zero stake still ∙ sym (above_zero v.stake some_stake))
+use Rattle.rh_edge_words.proofs.Tables.{at_view, stake_at, worker_is, live_at, tally}
+use Rattle.rh_edge_words.proofs.StepMoves.{split_move, join_move}
 
 module _ {S : Type 0} (m : Meaning) where
   seen_long : (s : State S View) (id : ℕ) (v : View) → KeepsTable m s → get_elem? s.views id ≡ some v → 0 < v.stake → (length v.seen ≡ length m.full) × (length v.credits ≡ length m.full)
@@ -34,20 +28,12 @@ module _ {S : Type 0} (m : Meaning) where
       let long : length s.words ≡ length m.full = kept.core.as_long in
       (sym (ap (λ (w : WorkerState). length w.seen) is) ∙ (sees.as_long ∙ long), sym (ap (λ (w : WorkerState). length w.credits) is) ∙ (sees.credits_as_long ∙ long))
 
-  split_core : (s : State S View) (id : ℕ) (v : View) → KeepsTable m s → get_elem? s.views id ≡ some v → 2 ≤ v.stake
-      → KeepsWords m.full m.rows record { words = s.words; workers = map worker_of (set s.views id (poorer v) ++ new_view v ∷ []) }
+  split_core : (s : State S View) (id : ℕ) (v : View) → KeepsTable m s → get_elem? s.views id ≡ some v → 2 ≤ v.stake → KeepsWords m.full m.rows (core_with s.words (set s.views id (poorer v) ++ new_view v ∷ []))
   split_core s id v kept e enough =
-      let some_stake : 0 < v.stake = omega arith in
-      let is = worker_is s.words s.views id v e in
-      let ws : List WorkerState = map worker_of s.views in
-      let poor : worker_of (poorer v) ≡ worker_of v = same_worker v (v.stake - 1) v.credits some_stake (omega arith) in
-      let stays : map worker_of (set s.views id (poorer v)) ≡ ws =
-      map-set worker_of s.views id (poorer v) ∙ (ap (λ (w : WorkerState). set ws id w) (poor ∙ sym is) ∙ set-get_or ws id spent) in
-      let all : map worker_of (set s.views id (poorer v) ++ new_view v ∷ []) ≡ ws ++ newcomer (worker_at (core_of s) id).seen ∷ [] =
-      map-append worker_of (set s.views id (poorer v)) (new_view v ∷ [])
-      ∙ (ap (λ (l : List WorkerState). l ++ worker_of (new_view v) ∷ []) stays ∙ ap (λ (w : WorkerState). ws ++ newcomer w.seen ∷ []) (sym is)) in
-      subst (λ (l : List WorkerState). KeepsWords m.full m.rows record { words = s.words; workers = l }) (sym all)
-      (split_keeps (core_of s) id kept.core (live_at s.words s.views id v e some_stake))
+      let is = (at_view s.views id v e).1 in
+      let enough' : 2 ≤ (get_or s.views id spent_view).stake = subst (λ (u : View). 2 ≤ u.stake) (sym is) enough in
+      let P : View → Type 0 = λ u. KeepsWords m.full m.rows (core_with s.words (set s.views id (poorer u) ++ new_view u ∷ [])) in
+      subst P is (move_keeps (core_of s) _ (split_move m.rows s.words s.views id (omega arith) enough') kept.core)
 
   pub splits : (id : ℕ) (v : View) → 2 ≤ v.stake → Splits {S = S} (KeepsTable m) id v (poorer v) (new_view v)
   splits id v enough s kept e =
@@ -86,20 +72,13 @@ module _ {S : Type 0} (m : Meaning) where
       omega arith
 
   join_core : (s : State S View) (id other : ℕ) (v w : View) → KeepsTable m s → get_elem? s.views id ≡ some v → get_elem? s.views other ≡ some w → id ≢ other → 0 < v.stake → 0 < w.stake
-      → KeepsWords m.full m.rows record { words = s.words; workers = map worker_of (set (set s.views id (both_views v w)) other spent_view) }
+      → KeepsWords m.full m.rows (core_with s.words (set (set s.views id (both_views v w)) other spent_view))
   join_core s id other v w kept e e' differ v_stake w_stake =
-      let ws : List WorkerState = map worker_of s.views in
-      let is = worker_is s.words s.views id v e in
-      let is' = worker_is s.words s.views other w e' in
-      let rich : worker_of (both_views v w) ≡ richer (worker_of v) (worker_of w) = same_worker v (v.stake + w.stake) (united v.credits w.credits) v_stake (omega arith) in
-      let as_core : richer (worker_of v) (worker_of w) ≡ richer (worker_at (core_of s) id) (worker_at (core_of s) other) =
-      ap (λ (x : WorkerState). richer x (worker_of w)) (sym is) ∙ ap (λ (x : WorkerState). richer (worker_at (core_of s) id) x) (sym is') in
-      let first : map worker_of (set s.views id (both_views v w)) ≡ set ws id (richer (worker_at (core_of s) id) (worker_at (core_of s) other)) =
-      map-set worker_of s.views id (both_views v w) ∙ ap (λ (x : WorkerState). set ws id x) (rich ∙ as_core) in
-      let all : map worker_of (set (set s.views id (both_views v w)) other spent_view) ≡ set (set ws id (richer (worker_at (core_of s) id) (worker_at (core_of s) other))) other spent =
-      map-set worker_of (set s.views id (both_views v w)) other spent_view ∙ ap (λ (l : List WorkerState). set l other spent) first in
-      subst (λ (l : List WorkerState). KeepsWords m.full m.rows record { words = s.words; workers = l }) (sym all)
-      (join_keeps (core_of s) id other kept.core differ (live_at s.words s.views id v e v_stake) (live_at s.words s.views other w e' w_stake))
+      let is = (at_view s.views id v e).1 in
+      let is' = (at_view s.views other w e').1 in
+      let P : View → View → Type 0 = λ x y. KeepsWords m.full m.rows (core_with s.words (set (set s.views id (both_views x y)) other spent_view)) in
+      let moved = move_keeps (core_of s) _ (join_move m.rows s.words s.views id (stake_at s.views id v e v_stake) other differ (stake_at s.views other w e' w_stake)) kept.core in
+      subst (λ (y : View). P v y) is' (subst (λ (x : View). P x (get_or s.views other spent_view)) is moved)
 
   pub joins : (id other : ℕ) (v w : View) → 0 < v.stake → 0 < w.stake → Joins {S = S} (KeepsTable m) id v other w (both_views v w) spent_view
   joins id other v w v_stake w_stake s kept e ne after =

@@ -8,9 +8,13 @@ use Rattle.rh_edge_words.specs.declared.view.View.{View}
 use Rattle.rh_edge_words.specs.Meaning.{Meaning}
 use Rattle.rh_edge_words.specs.Views.{worker_of, spent_view}
 
+-- the state of the solver that words and views are
+abbrev pub core_with : List ℕ → List View → CoreState
+core_with words views = record { words = words; workers = map worker_of views }
+
 -- the state of the solver that the table is
 abbrev pub core_of : {S : Type 0} → State S View → CoreState
-core_of s = record { words = s.words; workers = map worker_of s.views }
+core_of s = core_with s.words s.views
 
 -- A seat counts its loads of each word and the bits in its credits. A spent one has no loads
 pub record IsTallied (full : List ℕ) (v : View) : Type 0 where

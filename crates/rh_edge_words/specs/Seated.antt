@@ -1,5 +1,6 @@
 -- A seat with its copy of the words, its count and its stake.
-use Rattle.std.specs.Prelude.{ℕ, ◌^◌, ◌<◌, ◌≤◌, ◌≡◌, List, [], length, slice_index}
+use Rattle.std.specs.Prelude.{ℕ, ◌+◌, ◌^◌, ◌<◌, ◌≤◌, ◌≡◌, List, [], length, slice_index}
+use Rattle.std.specs.Int.{bit_at}
 use Rattle.rh_system.specs.declared.system.Row.{Row}
 use Rattle.rh_system.specs.Bits.{IsSubword, bit_count}
 use Rattle.rh_system.specs.Rows.{HoldsGreatest}
@@ -44,15 +45,19 @@ pub record IsTableOf (m : Meaning) (words slots : ℕ) (full : List ℕ) : Type 
   pub fit : (k : ℕ) → slice_index m.full k < 2 ^ 64
   pub full_is : m.full ≡ full
 
--- The view after a split, and that of the new seat. Word 0 was read before
+-- The view after a split, and that of the new seat. One look was made at word 0 before
 pub record SplitsView (v w new : View) : Type 0 where
   pub found : ℕ
   pub within : IsSubword found (slice_index v.seen 0)
   pub splitting : w ≡ poorer (after_look v 0 found)
   pub new_one : new ≡ new_view (after_look v 0 found)
 
--- the view after a join. Word 0 was read afterwards
+-- The view after a join. One look was made at word 0 afterwards
 pub record JoinsView (v other w : View) : Type 0 where
   pub found : ℕ
   pub within : IsSubword found (slice_index v.seen 0)
   pub joined : w ≡ after_look (both_views v other) 0 found
+
+-- each bit of the words is in one of two parts
+abbrev pub ArePartsOf : List ℕ → List ℕ → List ℕ → Type 0
+ArePartsOf xs ys words = (word place : ℕ) → place < 64 → bit_at (slice_index xs word) place + bit_at (slice_index ys word) place ≡ bit_at (slice_index words word) place

@@ -3,8 +3,6 @@
 
 mod rule;
 mod seat;
-#[cfg(test)]
-mod tests;
 mod threads;
 mod view;
 mod words;

@@ -31,7 +31,7 @@ impl<N: SystemName> TableRule<(), View, ()> for WordsRule<N> {
     ghost first = { λ _. first_view N.meaning.full };
 }
 
-/// A word is read, and that is not counted.
+/// A word is looked at, which is no load.
 pub(crate) struct Looking<N> {
     name: PhantomData<N>,
 }

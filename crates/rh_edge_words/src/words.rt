@@ -1,9 +1,11 @@
 //! The words that threads share.
-ghost use Rattle.std.specs.Prelude.{◌≡◌, ◌+◌, ◌<◌, ◌≤◌, ◌^◌, ℕ, IfOk, OnErr, length, slice_index};
+ghost use Rattle.std.specs.Prelude.{◌≡◌, ◌+◌, ◌<◌, ◌≤◌, ◌^◌, ℕ, List, IfOk, OnErr, length, slice_index};
 ghost use Rattle.rh_system.specs.Bits.{IsSubword, bit_count};
 ghost use Rattle.rh_system.specs.Rows.{HoldsGreatest, IsGreatest};
 ghost use Rattle.rh_core.specs.Moves.{MayClear};
-ghost use Rattle.rh_edge_words.specs.Seated.{IsNameOf, SplitsView, JoinsView};
+ghost use Rattle.rh_edge_words.specs.Seated.{IsNameOf, SplitsView, JoinsView, ArePartsOf};
+ghost use Rattle.rh_edge_words.specs.Steps.{view_at, StepsAreMoves};
+ghost use Rattle.rh_edge_words.specs.declared.view.View.{View};
 ghost use Rattle.rh_edge_words.specs.Views.{first_view, after_look, after_load, after_clear, poorer, new_view};
 
 use crate::rule::{Clearing, Halves, Loading, Looking, SystemName, Unites, WordsRule};
@@ -88,6 +90,14 @@ impl<'s, S: System, N: SystemName> EdgeWords<'s, S, N> {
         let _ = &self.table;
     }
 
+    /// A law: each step of a seat that is not spent is a move of the core, whatever the words and
+    /// the views of all seats are.
+    pub fn steps_are_moves(&self)
+        ensures { (words : List ℕ) (views : List View) (id : ℕ) → 0 < (view_at views id).stake → StepsAreMoves N.meaning.rows words views id }
+    {
+        let _ = &self.table;
+    }
+
     /// Loads a word.
     pub fn load(&self, seat: &mut WordSeat<N>, word: u32) -> u64
         requires table { seat.old.0 ≡ self.now.0 }
@@ -124,26 +134,29 @@ impl<'s, S: System, N: SystemName> EdgeWords<'s, S, N> {
         found
     }
 
-    /// Reads word 0, which counts as no load.
+    /// Looks at word 0, which is no load.
     fn look_first(&self, seat: &mut WordSeat<N>) -> u64
         requires table { seat.old.0 ≡ self.now.0 }
         ensures table { seat.new.0 ≡ seat.old.0 }
         ensures view { seat.new.1 ≡ after_look seat.old.1 0 result }
         ensures within { IsSubword result (slice_index seat.old.1.seen 0) }
+        ensures greatest { HoldsGreatest N.meaning.rows seat.new.1.seen }
         ensures some { 0 < length seat.old.1.seen }
     {
-        let found = self.table.shared.load::<Looking<N>>(&mut seat.seat, 0);
-        seat.copy[0] = found;
-        found
+        let first = self.table.shared.load::<Looking<N>>(&mut seat.seat, 0);
+        seat.copy[0] = first;
+        first
     }
 
     /// Makes a second seat, with one of the stake and the same words seen. The memory for its copy
-    /// is taken before any step, and word 0 is read before the view is cut in two.
+    /// is taken before any step, and one look is made at word 0 before the view is cut in two.
     pub fn split(&self, alloc: Global, seat: &mut WordSeat<N>) -> Result<WordSeat<N>, AllocError>
         requires table { seat.old.0 ≡ self.now.0 }
         requires stake { 2 ≤ seat.old.1.stake }
         ensures table { seat.new.0 ≡ seat.old.0 }
         ensures ok { IfOk result (λ new. (new.0 ≡ seat.old.0) × SplitsView seat.old.1 seat.new.1 new.1) }
+        ensures greatest { HoldsGreatest N.meaning.rows seat.new.1.seen }
+        ensures new_greatest { IfOk result (λ new. HoldsGreatest N.meaning.rows new.1.seen) }
         ensures err { OnErr result (seat.new ≡ seat.old) }
     {
         let mut copy = Vec::from_slice(alloc, seat.copy.as_slice())?;
@@ -170,12 +183,14 @@ impl<'s, S: System, N: SystemName> EdgeWords<'s, S, N> {
         }
     }
 
-    /// Takes in another seat: credits, counts, stakes and loads add up. Then word 0 is read.
+    /// Takes in another seat: credits, counts, stakes and loads add up. Then one look is made at
+    /// word 0.
     pub fn join(&self, seat: &mut WordSeat<N>, other: WordSeat<N>)
         requires table { seat.old.0 ≡ self.now.0 }
         requires other_table { other.0 ≡ self.now.0 }
         ensures table { seat.new.0 ≡ seat.old.0 }
         ensures joined { JoinsView seat.old.1 other.1 seat.new.1 }
+        ensures greatest { HoldsGreatest N.meaning.rows seat.new.1.seen }
     {
         let WordSeat {
             seat: part,
@@ -191,11 +206,13 @@ impl<'s, S: System, N: SystemName> EdgeWords<'s, S, N> {
         seat.stake += stake;
     }
 
-    /// Ends the table, and hands out the words as the seat saw them last.
+    /// Ends the table, and hands out the words as the seat saw them last. Where these are the
+    /// greatest supported set, each other full bit stands in the seat's credits.
     pub fn close(self, seat: WordSeat<N>) -> Vec<u64>
         requires table { seat.0 ≡ self.0 }
         requires stake { seat.1.stake ≡ 16 }
         ensures copy { result.items ≡ seat.1.seen }
+        ensures credits { IsGreatest N.meaning.rows result.items → ArePartsOf seat.1.credits result.items N.meaning.full }
         ensures count { IsGreatest N.meaning.rows result.items → bit_count seat.1.credits + bit_count result.items ≡ bit_count N.meaning.full }
     {
         let EdgeWords { system: _, table } = self;

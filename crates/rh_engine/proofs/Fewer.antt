@@ -1,5 +1,5 @@
 -- Fewer bits.
-use Rattle.std.proofs.Common.{◌≡◌, ◌≢◌, inl, inr, ℕ, suc, ◌+◌, ◌-◌, ◌*◌, ◌/◌, ◌%◌, ◌^◌, ◌<◌, ◌≤◌, Bool, true, false, IsTrue, List, [], ◌∷◌, length, get_or, set, bit_and, min, refl, sym, ap, subst, arith, ◌∙◌, sum_by, length-set}
+use Rattle.std.proofs.Common.{◌≡◌, ◌≢◌, inl, inr, ℕ, zero, suc, ◌+◌, ◌-◌, ◌*◌, ◌/◌, ◌%◌, ◌^◌, ◌<◌, ◌≤◌, Bool, true, false, IsTrue, List, [], ◌∷◌, length, get_or, set, bit_and, min, refl, sym, ap, subst, arith, ◌∙◌, sum_by, length-set}
 use Rattle.std.specs.Bool.{OnFalse}
 use Rattle.std.specs.Int.{bit_at}
 use Rattle.std.specs.Int.RustNames.{count_ones}
@@ -9,15 +9,16 @@ use Rattle.std.proofs.lemmas.List.{set_past, ext_get_or, get_or-map, length-map,
 use Rattle.std.proofs.lemmas.Nat.{ones-le}
 use Rattle.std.proofs.lemmas.List.Elements.{All-from_get_or}
 use Rattle.std.proofs.lemmas.List.Sums.{sum_by-set, sum_by-cons, sum_by-le}
-use Rattle.std.proofs.lemmas.Nat.Bits.{bit_at_and}
+use Rattle.std.proofs.lemmas.Nat.Bits.{bit_at-lt, bit_at_and}
 use Rattle.rh_system.specs.declared.system.Row.{Row}
 use Rattle.rh_system.specs.Bits.{IsSubword, bits_in, bit_count}
-use Rattle.rh_system.specs.Rows.{supports, IsSupported}
-use Rattle.rh_system.proofs.Supports.{bits_in_same, bit_inside}
+use Rattle.rh_system.specs.Rows.{supports, IsSupported, IsSupportedPart}
+use Rattle.rh_system.proofs.Supports.{bits_in_same, bit_inside, supports_grows}
+use Rattle.rh_core.proofs.Keeps.{wider, word_written}
 use Rattle.rh_edge_words.specs.declared.view.View.{View}
 use Rattle.rh_edge_words.specs.Views.{after_load}
 use Rattle.rh_edge_words.proofs.Counts.{ones_within, ones_fewer}
-use Rattle.rh_engine.specs.Turns.{more_loads, LoadsRange, IsWordSupported}
+use Rattle.rh_engine.specs.Turns.{more_loads, word_before, LoadsRange, AreWithin, IsWordSupported, IsSwept, AreSwept}
 
 -- a word of a list becomes one within it
 pub count_written : (seen : List ℕ) (word x : ℕ) → IsSubword x (get_or seen word 0) → bit_count (set seen word x) ≤ bit_count seen
@@ -29,6 +30,11 @@ count_written seen word x within =
           omega arith
       | inr past ↦ let same : bit_count (set seen word x) ≡ bit_count seen = ap bit_count (set_past seen word x past) in omega arith
     ]
+
+-- of a word that was found a part was kept
+pub part_written : (seen : List ℕ) (word part found : ℕ) → IsSubword found (get_or seen word 0) → AreWithin (set seen word (bit_and found part)) seen
+part_written seen word part found within =
+    word_written seen word (bit_and found part) (λ i. let a = within i in let b : bit_at (bit_and found part) i ≡ min (bit_at found i) (bit_at part i) = bit_at_and found part i in omega arith)
 
 -- of a seen word only a part was kept, which was not the whole, and of that only what was found
 pub count_cleared : (seen : List ℕ) (word part found : ℕ) → word < length seen → get_or seen word 0 < 2 ^ 64 → IsSubword part (get_or seen word 0) → part ≢ get_or seen word 0
@@ -49,7 +55,10 @@ none_loaded v from = record {
   long = refl;
   loaded = λ k low high. absurd (omega arith);
   before = λ k low. refl;
-  behind = λ k high. refl;
+  after = λ k high. refl;
+  last = λ less. absurd (omega arith);
+  no_last = λ none. refl;
+  within = λ k place. omega arith;
   fewer = omega arith;
 }
 
@@ -76,11 +85,18 @@ one_loaded v w w' from word found range rising inside is within =
       long = ap length loads ∙ (length-set w.loads word (get_or w.loads word 0 + 1) ∙ long);
       loaded = λ k low high.
           elim (cases_eq k word) [
-            | inl same ↦ (at k).0 same ∙ ap (λ (n : ℕ). n + 1) (range.behind k (omega arith))
+            | inl same ↦ (at k).0 same ∙ ap (λ (n : ℕ). n + 1) (range.after k (omega arith))
             | inr differs ↦ (at k).1 differs ∙ range.loaded k low (omega arith)
           ];
       before = λ k low. (at k).1 (λ e. omega arith) ∙ range.before k low;
-      behind = λ k high. (at k).1 (λ e. omega arith) ∙ range.behind k (omega arith);
+      after = λ k high. (at k).1 (λ e. omega arith) ∙ range.after k (omega arith);
+      last = λ less. ap (λ (u : View). u.last + 1) is;
+      no_last = λ none. absurd (omega arith);
+      within = λ k place.
+          let less : bit_at (get_or w'.seen k 0) place ≤ bit_at (get_or w.seen k 0) place =
+          subst (λ (ws : List ℕ). bit_at (get_or ws k 0) place ≤ bit_at (get_or w.seen k 0) place) (sym (ap (λ (u : View). u.seen) is)) (word_written w.seen word found within k place) in
+          let before_less : bit_at (get_or w.seen k 0) place ≤ bit_at (get_or v.seen k 0) place = range.within k place in
+          omega arith;
       fewer = omega arith;
     }
 
@@ -95,13 +111,23 @@ all_loaded v w u first count back front many =
     let more : get_or (more_loads 1 v.loads) k 0 ≡ get_or v.loads k 0 + 1 = get_or-map (λ (n : ℕ). n + 1) v.loads k 0 0 (omega arith) in
     elim (cases_lt k first) [
       | inl low ↦ let x = front.loaded k (omega arith) low in let y = back.before k low in omega arith
-      | inr high ↦ let x = front.behind k high in let y = back.loaded k high (omega arith) in omega arith
+      | inr high ↦ let x = front.after k high in let y = back.loaded k high (omega arith) in omega arith
     ])
 
--- a share of the words
-pub share_le : (id count : ℕ) → id < 16 → id * count / 16 ≤ count
-share_le id count small =
-    let le : id * count ≤ 16 * count = mul-le-mul_right count (let l : id ≤ 16 = omega arith in l) in
+-- a share of the words begins at one of them
+pub share_begins : (id count : ℕ) → id < 16 → 0 < count → id * count / 16 < count
+share_begins id count small some =
+    let le : id * count ≤ 15 * count = mul-le-mul_right count (let l : id ≤ 15 = omega arith in l) in
+    omega arith
+
+-- the last word of a round
+pub round_ends : (v w u : View) (first count : ℕ) → LoadsRange v w first count → LoadsRange w u 0 first → first < count → u.last ≡ word_before count first
+round_ends v w u zero count back front some =
+    let end : w.last + 1 ≡ count = back.last some in
+    let same : u.last ≡ w.last = front.no_last (omega arith) in
+    omega arith
+round_ends v w u (suc first) count back front some =
+    let end : u.last + 1 ≡ suc first = front.last (omega arith) in
     omega arith
 
 -- ---- the clears of a turn
@@ -147,6 +173,46 @@ clears_all rows before now below cleared done all =
 pub clears_kept : (rows : List Row) (before : List ℕ) (v w : View) (below : ℕ) (cleared : Bool) → w ≡ v → ClearsBelow rows before v.seen below cleared → IsWordSupported rows v.seen below → ClearsBelow rows before w.seen (below + 1) cleared
 clears_kept rows before v w below cleared same so_far supported =
     subst (λ (u : View). ClearsBelow rows before u.seen (below + 1) cleared) (sym same) (clears_no_more rows before v.seen below cleared so_far supported)
+
+-- a turn has swept the words below `below`
+pub record SweptBelow (rows : List Row) (before now : List ℕ) (below : ℕ) : Type 0 where
+  pub within : AreWithin now before
+  pub swept : (bit : ℕ) → bit < 64 * below → IsTrue (bits_in now bit) → IsTrue (supports rows (bits_in before) bit)
+
+pub swept_none : (rows : List Row) (before : List ℕ) → SweptBelow rows before before 0
+swept_none rows before = record { within = λ k place. omega arith; swept = λ bit small h. absurd (omega arith) }
+
+-- what words within others support, these support
+pub supports_within : (rows : List Row) (now before : List ℕ) → AreWithin now before → (bit : ℕ) → IsTrue (supports rows (bits_in now) bit) → IsTrue (supports rows (bits_in before) bit)
+supports_within rows now before within bit h = supports_grows rows (bits_in now) (bits_in before) (λ b stands. wider now before within b stands) bit h
+
+pub swept_more : (rows : List Row) (before now after : List ℕ) (below : ℕ) → SweptBelow rows before now below → AreWithin after now → IsSwept rows now after below → SweptBelow rows before after (below + 1)
+swept_more rows before now after below so_far within swept = record {
+  within = λ k place.
+      let a : bit_at (get_or after k 0) place ≤ bit_at (get_or now k 0) place = within k place in
+      let b : bit_at (get_or now k 0) place ≤ bit_at (get_or before k 0) place = so_far.within k place in
+      omega arith;
+  swept = λ bit small h.
+      elim (cases_lt bit (64 * below)) [
+        | inl earlier ↦ so_far.swept bit earlier (wider after now within bit h)
+        | inr low ↦
+            let here : bit / 64 ≡ below = omega arith in
+            let place : 64 * below + bit % 64 ≡ bit = omega arith in
+            let stands : bit_at (get_or after below 0) (bit % 64) ≡ 1 = subst (λ (w : ℕ). bit_at (get_or after w 0) (bit % 64) ≡ 1) here (bits_in_same after bit h) in
+            supports_within rows now before so_far.within bit (subst (λ (b : ℕ). IsTrue (supports rows (bits_in now) b)) place (swept (bit % 64) (omega arith) stands))
+      ];
+}
+
+pub swept_all : (rows : List Row) (before now : List ℕ) (below : ℕ) → SweptBelow rows before now below → length now ≤ below → AreSwept rows before now
+swept_all rows before now below done all bit h = let inside : bit / 64 < length now = bit_inside now bit h in done.swept bit (omega arith) h
+
+-- of the word that was found a part was kept that the words support
+pub part_swept : (rows : List Row) (seen : List ℕ) (word part found : ℕ) → word < length seen → IsSupportedPart rows seen word part → IsSwept rows seen (set seen word (bit_and found part)) word
+part_swept rows seen word part found inside is place small stands =
+    let here : bit_at (get_or (set seen word (bit_and found part)) word 0) place ≡ bit_at (bit_and found part) place = ap (λ (x : ℕ). bit_at x place) (get_or-set_same seen word (bit_and found part) 0 inside) in
+    let both : bit_at (bit_and found part) place ≡ min (bit_at found place) (bit_at part place) = bit_at_and found part place in
+    let a = bit_at-lt part place in
+    is.1 place small (omega arith)
 
 -- ---- many turns
 

@@ -1,8 +1,10 @@
 //! Workers on shared words, forked and joined.
-ghost use Rattle.std.specs.Prelude.{◌≡◌, ◌+◌, ◌*◌, ◌<◌, ◌≤◌, [], IfOk, length, sum_by, vec_len, All, ℕ, slice_index_or};
+ghost use Rattle.std.specs.Prelude.{◌≡◌, ◌+◌, ◌*◌, ◌<◌, ◌≤◌, [], IfOk, length, replicate, sum_by, vec_len, All, ℕ, slice_index_or};
 ghost use Rattle.rh_system.specs.Bits.{bit_count};
 ghost use Rattle.rh_system.specs.Rows.{IsGreatest};
-ghost use Rattle.rh_engine.specs.Crew.{Seen, IsCrew, HasRun};
+ghost use Rattle.rh_engine.specs.Turns.{more_loads};
+ghost use Rattle.rh_engine.specs.Crew.{Seen, HasLoaded, IsCrew, HasRun};
+ghost use Rattle.rh_edge_words.specs.Views.{first_view};
 
 use crate::worker::Worker;
 use rh_edge_words::{EdgeWords, SystemName, WordSeat};
@@ -24,7 +26,7 @@ pub struct Solved {
     pub turns: u64,
 }
 
-/// The workers with a seat each, of which the first keeps what is left of the stake.
+/// The workers with a seat each. The last one's is the first seat, with what is left of the stake.
 fn crew<S: System, N: SystemName>(
     alloc: Global,
     words: &EdgeWords<S, N>,
@@ -32,17 +34,18 @@ fn crew<S: System, N: SystemName>(
     workers: u32,
 ) -> Result<Vec<Worker<N>>, AllocError>
     requires table { first.0 ≡ words.now.0 }
-    requires stake { first.1.stake ≡ 16 }
+    requires view { first.1 ≡ first_view N.meaning.full }
     requires some { 0 < workers }
     requires few { workers ≤ 16 }
-    ensures { IfOk result (λ crew. IsCrew words.now.0 workers crew.items) }
+    ensures { IfOk result (λ crew. IsCrew words.now.0 (length N.meaning.full) workers crew.items) }
 {
+    let last = workers - 1;
     let mut crew = Vec::with_capacity(alloc, workers as usize)?;
-    for id in 1..workers {
+    for id in 0..last {
         let seat = words.split(alloc, &mut first)?;
         crew.push(Worker::new(id, seat))?;
     }
-    crew.push(Worker::new(0, first))?;
+    crew.push(Worker::new(last, first))?;
     Ok(crew)
 }
 
@@ -58,12 +61,14 @@ fn run_all<R: Threads + Sync, S: System + Sync, N: SystemName + Send + Sync, G: 
     ensures tables { All (λ w. w.0 ≡ words.now.0) crew.new }
     ensures run { All (HasRun N.meaning.full N.meaning.rows) crew.new }
     ensures stakes { (i : ℕ) (d : Seen) → i < length crew.old → (slice_index_or crew.new i d).1.stake ≡ (slice_index_or crew.old i d).1.stake }
+    ensures loads { (i : ℕ) (d : Seen) → i < length crew.old → (slice_index_or crew.new i d).1.loads ≡ more_loads (slice_index_or crew.new i d).2 (slice_index_or crew.old i d).1.loads }
+    ensures numbers { (i : ℕ) (d : Seen) → i < length crew.old → (slice_index_or crew.new i d).3 ≡ (slice_index_or crew.old i d).3 }
 {
     let threads = crew.len();
     for_each_mut(rt, crew, threads, &|_, worker| worker.run(words, gate));
 }
 
-/// Joins all seats into one, and adds up the turns.
+/// Joins all seats into one, and adds up the turns. Each word was loaded as often.
 fn gather<S: System, N: SystemName>(
     words: &EdgeWords<S, N>,
     mut crew: Vec<Worker<N>>,
@@ -72,10 +77,12 @@ fn gather<S: System, N: SystemName>(
     requires few { vec_len crew ≤ 16 }
     requires tables { All (λ w. w.0 ≡ words.now.0) crew.items }
     requires run { All (HasRun N.meaning.full N.meaning.rows) crew.items }
+    requires loaded { All (λ w. HasLoaded (length N.meaning.full) w.2 w) crew.items }
     requires stakes { sum_by (λ w. w.1.stake) crew.items ≡ 16 }
     ensures table { result.0.0 ≡ words.now.0 }
     ensures stake { result.0.1.stake ≡ 16 }
     ensures greatest { IsGreatest N.meaning.rows result.0.1.seen }
+    ensures loaded { result.0.1.loads ≡ replicate (length N.meaning.full) result.1 }
     ensures enough { vec_len crew ≤ result.1 }
     ensures most { result.1 ≤ vec_len crew * (bit_count N.meaning.full + 1) }
 {
@@ -91,6 +98,25 @@ fn gather<S: System, N: SystemName>(
         seat.is_seated();
     }
     (seat, turns)
+}
+
+/// Ends the table. The turns are those that the loads of its last seat show.
+fn close<S: System, N: SystemName>(words: EdgeWords<S, N>, seat: WordSeat<N>, turns: u64) -> Solved
+    requires table { seat.0 ≡ words.0 }
+    requires stake { seat.1.stake ≡ 16 }
+    requires greatest { IsGreatest N.meaning.rows seat.1.seen }
+    requires loaded { seat.1.loads ≡ replicate (length N.meaning.full) turns }
+    ensures words { result.words ≡ seat.1.seen }
+    ensures cleared { result.cleared + bit_count result.words ≡ bit_count N.meaning.full }
+    ensures turns { result.turns ≡ turns }
+{
+    let cleared = seat.cleared();
+    let found = words.close(seat);
+    Solved {
+        words: Items::from(found),
+        cleared,
+        turns,
+    }
 }
 
 /// Solves a system that has a name and words.
@@ -117,13 +143,7 @@ fn solve_named<R: Threads + Sync, S: System + Sync, N: SystemName + Send + Sync,
     run_all(rt, crew.as_mut_slice(), &words, gate);
     let (seat, turns) = gather(&words, crew);
     seat.is_seated();
-    let cleared = seat.cleared();
-    let found = words.close(seat);
-    Ok(Solved {
-        words: Items::from(found),
-        cleared,
-        turns,
-    })
+    Ok(close(words, seat, turns))
 }
 
 /// A system without words has no bits.

@@ -3,7 +3,7 @@ ghost use Rattle.std.specs.Prelude.{◌≡◌, ◌+◌, ◌<◌, ◌≤◌, leng
 ghost use Rattle.std.specs.Bool.{OnTrue, OnFalse};
 ghost use Rattle.rh_system.specs.Bits.{bits_in, bit_count};
 ghost use Rattle.rh_system.specs.Rows.{IsSupported};
-ghost use Rattle.rh_engine.specs.Turns.{more_loads, LoadsRange, IsWordSupported};
+ghost use Rattle.rh_engine.specs.Turns.{more_loads, round_end, LoadsRange, KeepsLoads, AreWithin, IsWordSupported, IsSwept, AreSwept};
 
 use rh_edge_words::{EdgeWords, SystemName, WordSeat};
 use rh_outside::Gate;
@@ -40,15 +40,18 @@ fn load_range<S: System, N: SystemName>(
     }
 }
 
-/// Loads every word once, and begins where the worker's share of the words does.
+/// Loads every word once, from the beginning of the worker's share of the words on and round.
 fn load_all<S: System, N: SystemName>(words: &EdgeWords<S, N>, seat: &mut WordSeat<N>, id: u32)
     requires table { seat.old.0 ≡ words.now.0 }
     requires id { id < 16 }
     ensures table { seat.new.0 ≡ seat.old.0 }
     ensures stake { seat.new.1.stake ≡ seat.old.1.stake }
     ensures loads { seat.new.1.loads ≡ more_loads 1 seat.old.1.loads }
+    ensures last { seat.new.1.last ≡ round_end id (length N.meaning.full) }
+    ensures within { AreWithin seat.new.1.seen seat.old.1.seen }
     ensures fewer { bit_count seat.new.1.seen ≤ bit_count seat.old.1.seen }
 {
+    words.is_named();
     let count = words.count();
     let first = (u64::from(id) * u64::from(count) / 16) as u32;
     seat.is_seated();
@@ -69,8 +72,9 @@ fn clear_word<S: System, N: SystemName, G: Gate>(
     requires table { seat.old.0 ≡ words.now.0 }
     requires in_range { word < length N.meaning.full }
     ensures table { seat.new.0 ≡ seat.old.0 }
-    ensures stake { seat.new.1.stake ≡ seat.old.1.stake }
-    ensures loads { seat.new.1.loads ≡ seat.old.1.loads }
+    ensures loads { KeepsLoads seat.old.1 seat.new.1 }
+    ensures within { AreWithin seat.new.1.seen seat.old.1.seen }
+    ensures swept { IsSwept N.meaning.rows seat.old.1.seen seat.new.1.seen word }
     ensures cleared { OnTrue result (bit_count seat.new.1.seen < bit_count seat.old.1.seen) }
     ensures kept { OnFalse result ((seat.new.1 ≡ seat.old.1) × IsWordSupported N.meaning.rows seat.old.1.seen word) }
 {
@@ -97,11 +101,10 @@ fn clear_all<S: System, N: SystemName, G: Gate>(
 ) -> bool
     requires table { seat.old.0 ≡ words.now.0 }
     ensures table { seat.new.0 ≡ seat.old.0 }
-    ensures stake { seat.new.1.stake ≡ seat.old.1.stake }
-    ensures loads { seat.new.1.loads ≡ seat.old.1.loads }
+    ensures loads { KeepsLoads seat.old.1 seat.new.1 }
+    ensures swept { AreSwept N.meaning.rows seat.old.1.seen seat.new.1.seen }
     ensures cleared { OnTrue result (bit_count seat.new.1.seen < bit_count seat.old.1.seen) }
     ensures closed { OnFalse result (IsSupported N.meaning.rows (bits_in seat.new.1.seen)) }
-    ensures fewer { bit_count seat.new.1.seen ≤ bit_count seat.old.1.seen }
 {
     let mut cleared = false;
     for word in 0..words.count() {
@@ -125,9 +128,10 @@ pub(crate) fn turn<S: System, N: SystemName, G: Gate>(
     ensures table { seat.new.0 ≡ seat.old.0 }
     ensures stake { seat.new.1.stake ≡ seat.old.1.stake }
     ensures loads { seat.new.1.loads ≡ more_loads 1 seat.old.1.loads }
+    ensures last { seat.new.1.last ≡ round_end id (length N.meaning.full) }
+    ensures swept { AreSwept N.meaning.rows seat.old.1.seen seat.new.1.seen }
     ensures cleared { OnTrue result (bit_count seat.new.1.seen < bit_count seat.old.1.seen) }
     ensures closed { OnFalse result (IsSupported N.meaning.rows (bits_in seat.new.1.seen)) }
-    ensures fewer { bit_count seat.new.1.seen ≤ bit_count seat.old.1.seen }
 {
     load_all(words, seat, id);
     clear_all(words, seat, id, gate)

@@ -1,8 +1,8 @@
 //! A worker.
-ghost use Rattle.std.specs.Prelude.{◌≡◌, ◌+◌, ◌<◌, ◌≤◌};
+ghost use Rattle.std.specs.Prelude.{◌≡◌, ◌+◌, ◌<◌, ◌≤◌, length};
 ghost use Rattle.rh_system.specs.Bits.{bit_count};
 ghost use Rattle.rh_system.specs.Rows.{IsGreatest};
-ghost use Rattle.rh_engine.specs.Turns.{more_loads};
+ghost use Rattle.rh_engine.specs.Turns.{more_loads, round_end};
 
 use crate::sweep::turn;
 use rh_edge_words::{EdgeWords, SystemName, WordSeat};
@@ -10,8 +10,8 @@ use rh_outside::Gate;
 use rh_system::System;
 use std::marker::Model;
 
-/// A worker with its seat. Contracts see it as the table of its seat, the seat's view and the
-/// turns of its last run.
+/// A worker with its seat. Contracts see it as the table of its seat, the seat's view, the turns of
+/// its last run and its number.
 #[derive(Drop)]
 pub struct Worker<N: SystemName> {
     id: u32,
@@ -24,9 +24,9 @@ impl<N: SystemName> Model for Worker<N> {
     ghost use Rattle.atomic_table.specs.Seated.{TableId, table_id_coded};
     ghost use Rattle.rh_edge_words.specs.declared.view.View.{View};
 
-    ghost Value = { TableId × View × ℕ };
+    ghost Value = { TableId × View × ℕ × ℕ };
 
-    ghost view = { λ w. (w.seat.0, w.seat.1, w.turns) };
+    ghost view = { λ w. (w.seat.0, w.seat.1, w.turns, w.id) };
 
     ghost invariant = { λ w. w.id < 16 };
 }
@@ -35,20 +35,23 @@ impl<N: SystemName> Worker<N> {
     /// A worker that has not run.
     pub fn new(id: u32, seat: WordSeat<N>) -> Worker<N>
         requires { id < 16 }
-        ensures { result ≡ (seat.0, seat.1, 0) }
+        ensures { result ≡ (seat.0, seat.1, 0, id) }
     {
         Worker { id, seat, turns: 0 }
     }
 
-    /// Takes turns until one finds nothing to clear. Each turn loads every word once and then
-    /// clears what the words that it saw do not support. Whatever other workers do, the words that
-    /// the seat has seen are then the greatest supported set.
+    /// Takes turns until one finds nothing to clear. Each turn loads every word once, beginning at
+    /// the worker's share of the words, and then clears what the words that it saw do not support.
+    /// Whatever other workers do, the words that the seat has seen are then the greatest supported
+    /// set.
     pub fn run<S: System, G: Gate>(&mut self, words: &EdgeWords<S, N>, gate: &G)
         requires table { self.old.0 ≡ words.now.0 }
         ensures table { self.new.0 ≡ self.old.0 }
+        ensures number { self.new.3 ≡ self.old.3 }
         ensures stake { self.new.1.stake ≡ self.old.1.stake }
         ensures greatest { IsGreatest N.meaning.rows self.new.1.seen }
         ensures loads { self.new.1.loads ≡ more_loads self.new.2 self.old.1.loads }
+        ensures last { self.new.1.last ≡ round_end self.old.3 (length N.meaning.full) }
         ensures some { 0 < self.new.2 }
         ensures few { self.new.2 ≤ bit_count N.meaning.full + 1 }
     {
@@ -88,6 +91,7 @@ fn take_turns<S: System, N: SystemName, G: Gate>(
     ensures stake { seat.new.1.stake ≡ seat.old.1.stake }
     ensures greatest { IsGreatest N.meaning.rows seat.new.1.seen }
     ensures loads { seat.new.1.loads ≡ more_loads result seat.old.1.loads }
+    ensures last { seat.new.1.last ≡ round_end id (length N.meaning.full) }
     ensures some { 0 < result }
     ensures few { result ≤ bit_count N.meaning.full + 1 }
 {

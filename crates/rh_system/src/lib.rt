@@ -6,8 +6,6 @@ mod example;
 mod listed;
 mod rounds;
 mod system;
-#[cfg(test)]
-mod tests;
 
 pub use bits::{has, has_all, is_set, with_bit};
 pub use example::branch_in_a_loop;

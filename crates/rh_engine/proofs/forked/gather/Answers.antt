@@ -16,7 +16,7 @@ loop-worker-init g c =
     let rest : List Seen = c.pop.new.self.items in
     let w : Seen = c.in-Some.last in
     let many : length c.args.crew.items ≡ vec_len c.args.crew = search rules in
-    let joins = join_first c.args.words.now.0 m.full m.rows (vec_len c.args.crew) c.args.crew.items rest w c.in-Some.ensures.items many c.requires.tables c.requires.run c.requires.stakes in
+    let joins = join_first c.args.words.now.0 m.full m.rows (vec_len c.args.crew) c.args.crew.items rest w c.in-Some.ensures.items many c.requires.tables c.requires.run c.requires.loaded c.requires.stakes in
     let P : TableId × View → ℕ → Type 0 = λ s t. Joins c.args.words.now.0 m.full m.rows (vec_len c.args.crew) rest s t in
     subst (λ (t : ℕ). P c.into_seat-seat.result t) (sym c.turns-turns.ensures) (subst (λ (s : TableId × View). P s w.2) (sym c.into_seat-seat.ensures) joins)
 

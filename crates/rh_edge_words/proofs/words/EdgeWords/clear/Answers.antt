@@ -26,4 +26,4 @@ overflow_add-seat g c =
 
 pub invariant_of-seat : goal.invariant_of-seat
 invariant_of-seat g c =
-    cleared_seat g.N.SystemName.meaning _ _ _ _ _ _ _ _ _ _ c.seat.invariant c.fetch_and-found.ensures.2 c.from.ensures
+    cleared_seat g.N.SystemName.meaning _ _ _ _ _ _ _ _ _ c.seat.invariant c.fetch_and-found.ensures.2 c.from.ensures

@@ -32,4 +32,4 @@ overflow_add-seat g c =
     record { fits = omega arith }
 
 pub invariant_of-seat : goal.invariant_of-seat
-invariant_of-seat g c = joined_seat g.N.SystemName.meaning _ _ _ _ _ _ _ _ _ _ _ _ c.seat.invariant c.other.invariant c.join_seat.ensures.2 c.load-found.ensures.2
+invariant_of-seat g c = joined_seat g.N.SystemName.meaning _ _ _ _ _ _ _ _ _ _ _ c.seat.invariant c.other.invariant c.join_seat.ensures.2 c.load-found.ensures.2
