@@ -9,6 +9,7 @@ mod numbers;
 mod procedures;
 mod program;
 mod proper;
+mod threads;
 mod value;
 
 pub use fault::{Limited, ProgFault, ProgWrong};
@@ -17,6 +18,7 @@ pub use numbers::numbers_fit;
 pub use procedures::Program;
 pub use program::{Base, Edge, Node, Proc, Slot, Stmt};
 pub use proper::{are_proper, is_keyword, is_proper};
+pub use threads::programs_cross_threads;
 pub use value::{Op, Value};
 
 #[cfg(test)]

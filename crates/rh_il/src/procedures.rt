@@ -2,7 +2,7 @@
 
 ghost use Rattle.std.specs.Prelude.{◌≡◌, IfOk, option_copied, slice_get};
 
-use crate::check::{place_of, program_fault};
+use crate::check::{check_program, place_of};
 use crate::fault::ProgFault;
 use crate::flow::{edges_into, target_in};
 use crate::program::{Edge, Proc};
@@ -43,12 +43,10 @@ impl Program {
         ensures passes { IfOk result (λ program. program_fault procs.items ≡ None) }
         ensures fault { IfErr result (λ fault. program_fault procs.items ≡ Some fault) }
     {
-        match program_fault(procs.as_slice()) {
-            Some(fault) => Err(fault),
-            None => Ok(Program {
-                procs: Items::from(procs),
-            }),
-        }
+        check_program(procs.as_slice())?;
+        Ok(Program {
+            procs: Items::from(procs),
+        })
     }
 
     /// How many procedures there are.

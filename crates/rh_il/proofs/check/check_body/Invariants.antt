@@ -2,7 +2,7 @@ use Rattle.std.proofs.Common.{◌≡◌, None}
 use Rattle.std.specs.Prelude.{slice_get}
 use Rattle.std.specs.Option.{option_and_then}
 use Rattle.rh_il.specs.Checks.{first_some, stmt_fault}
-use Rattle.rh_il.proofs.check.body_fault.Given as goal
+use Rattle.rh_il.proofs.check.check_body.Given as goal
 
 abbrev pub invariant-loop-item : goal.invariant-loop-item
 invariant-loop-item l =
