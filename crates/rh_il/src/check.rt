@@ -94,7 +94,7 @@ fn is_jump(stmt: Stmt) -> bool
     )
 }
 
-/// Whether a body has a last statement, and no edge leads behind it.
+/// Whether control cannot run off the end of a body.
 fn is_closed(body: &[Stmt]) -> bool
     ensures { result ≡ is_closed body.now }
 {

@@ -35,8 +35,8 @@ impl Program {
     ghost use Rattle.rh_il.specs.Flow.{edge_target, edges_into};
     ghost use Rattle.rh_il.specs.Checks.{has_proper_names, program_fault, main_of, IsProgram, ProcPassed};
 
-    /// The program of procedures whose names begin with a small letter and are none of the words of
-    /// the language; or the first check that they don't pass.
+    /// The program of these procedures, or the first check that they fail. `are_proper` tests their
+    /// names. It takes no memory.
     pub fn new(procs: Vec<Proc>) -> Result<Program, ProgFault>
         requires { list_all has_proper_names procs.items ≡ true }
         ensures program { IfOk result (λ program. program ≡ procs.items) }

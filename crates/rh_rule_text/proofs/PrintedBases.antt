@@ -6,7 +6,7 @@ use Rattle.std.specs.List.{AllByRecursion}
 use Rattle.std.specs.Option.{option_or, option_map_or}
 use Rattle.rh_il.specs.Name.{is_upper_name}
 use Rattle.rh_il.specs.declared.value.Op.{Op}
-use Rattle.rh_il_text.specs.Text.{op_text}
+use Rattle.rh_print.specs.Operators.{op_text}
 use Rattle.rh_rule.specs.declared.schema.Param.{Param}
 use Rattle.rh_rule.specs.declared.schema.MeaningBase.{MeaningBase}
 use Rattle.rh_rule.specs.declared.schema.MeaningBase.TheVariants.{Param as AParam, Num as ANumber}

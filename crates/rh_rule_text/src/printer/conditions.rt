@@ -5,7 +5,7 @@ ghost use Rattle.std.specs.List.{flat_map};
 ghost use Rattle.rh_rule_text.specs.Text.{joined, operand_text, schema_name, fact_text, premise_text, side_term_text, side_text, listed, conditions_text};
 
 use super::forms::{push_compute, push_operand};
-use rh_il_text::push;
+use rh_print::push;
 use rh_rule::{FactUse, Param, RuleBase, Schema, Side, SideTerm};
 use std::alloc::{AllocError, Global};
 

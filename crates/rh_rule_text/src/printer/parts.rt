@@ -4,7 +4,7 @@ ghost use Rattle.std.specs.Prelude.{◌≡◌, ◌++◌, codes, OnOk};
 ghost use Rattle.std.specs.List.{flat_map};
 ghost use Rattle.rh_rule_text.specs.Text.{joined, kind_text, param_text, params_text, param_name, base_text};
 
-use rh_il_text::{push, push_number};
+use rh_print::{push, push_number};
 use rh_rule::{Kind, MeaningBase, Param};
 use std::alloc::{AllocError, Global};
 
