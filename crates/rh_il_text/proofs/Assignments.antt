@@ -8,7 +8,7 @@ use Rattle.rh_grammar.specs.declared.grammar.Symbol.TheVariants.{Token, Rule}
 use Rattle.rh_grammar.proofs.Inversion.{inverted}
 use Rattle.rh_il.specs.declared.value.Op.{Op}
 use Rattle.rh_il.specs.declared.value.Op.TheVariants.{Add, Sub, Mul, Less as LessOp, Equal as EqualOp}
-use Rattle.rh_il_text.specs.declared.word.Keyword.TheVariants.{New as NewWord}
+use Rattle.rh_il.specs.declared.keyword.Keyword.TheVariants.{New as NewWord}
 use Rattle.rh_il_text.specs.declared.word.Word.{Word}
 use Rattle.rh_il_text.specs.declared.word.Word.TheVariants.{Sign as SignWord, Keyword as KeywordWord, Name}
 use Rattle.rh_il_text.specs.declared.source.Operand.{Operand}

@@ -10,7 +10,7 @@ use Rattle.rh_grammar.specs.declared.grammar.Symbol.TheVariants.{Token, Rule}
 use Rattle.rh_grammar.specs.Derivation.{Derivable, Leads, done, token, expand}
 use Rattle.rh_il.specs.declared.value.Op.{Op}
 use Rattle.rh_il.specs.declared.value.Op.TheVariants.{Add, Sub, Mul, Less as LessOp, Equal as EqualOp}
-use Rattle.rh_il_text.specs.declared.word.Keyword.TheVariants.{Goto as GotoWord, Else as ElseWord}
+use Rattle.rh_il.specs.declared.keyword.Keyword.TheVariants.{Goto as GotoWord, Else as ElseWord}
 use Rattle.rh_il_text.specs.declared.word.Word.{Word}
 use Rattle.rh_il_text.specs.declared.word.Word.TheVariants.{Sign as SignWord, Keyword as KeywordWord, Number}
 use Rattle.rh_il_text.specs.declared.source.Operand.{Operand}

@@ -8,7 +8,7 @@ use Rattle.rh_grammar.specs.declared.grammar.Symbol.{Symbol}
 use Rattle.rh_grammar.specs.declared.grammar.Symbol.TheVariants.{Token, Rule}
 use Rattle.rh_grammar.specs.Derivation.{Leads}
 use Rattle.rh_grammar.proofs.Inversion.{inverted, follows}
-use Rattle.rh_il_text.specs.declared.word.Keyword.{Keyword}
+use Rattle.rh_il.specs.declared.keyword.Keyword.{Keyword}
 use Rattle.rh_il_text.specs.declared.word.Word.{Word}
 use Rattle.rh_il_text.specs.declared.word.Word.TheVariants.{Sign as SignWord, Keyword as KeywordWord, Name, Number}
 use Rattle.rh_il_text.specs.declared.source.Operand.{Operand}

@@ -12,8 +12,8 @@ use Rattle.rh_text.specs.Pieces.{Piece, Word, Mark, spelled, is_word_byte, IsWor
 use Rattle.rh_text.proofs.Printing.{space_piece, sign_piece, word_piece, number_piece}
 use Rattle.rh_il.specs.Checks.{keywords}
 use Rattle.rh_il.specs.Name.{is_lower_name, is_name, is_word_byte as is_name_byte}
-use Rattle.rh_il_text.specs.declared.word.Keyword.{Keyword}
-use Rattle.rh_il_text.specs.declared.word.Keyword.TheVariants.{Skip as SkipWord, Goto as GotoWord, If as IfWord, Else as ElseWord, Return as ReturnWord, New as NewWord, Var as VarWord}
+use Rattle.rh_il.specs.declared.keyword.Keyword.{Keyword}
+use Rattle.rh_il.specs.declared.keyword.Keyword.TheVariants.{Skip as SkipWord, Goto as GotoWord, If as IfWord, Else as ElseWord, Return as ReturnWord, New as NewWord, Var as VarWord}
 use Rattle.rh_il_text.specs.declared.source.Operand.{Operand}
 use Rattle.rh_il_text.specs.declared.source.Operand.TheVariants.{Var, Num}
 use Rattle.rh_il_text.specs.declared.source.Line.{Line}

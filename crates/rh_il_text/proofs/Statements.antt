@@ -5,7 +5,7 @@ use Rattle.rh_text.specs.declared.sign.Sign.TheVariants.{Becomes, Star}
 use Rattle.rh_grammar.specs.declared.grammar.Symbol.{Symbol}
 use Rattle.rh_grammar.specs.declared.grammar.Symbol.TheVariants.{Token, Rule}
 use Rattle.rh_grammar.proofs.Inversion.{inverted}
-use Rattle.rh_il_text.specs.declared.word.Keyword.TheVariants.{Skip as SkipWord, Goto as GotoWord, If as IfWord, Else as ElseWord, Return as ReturnWord}
+use Rattle.rh_il.specs.declared.keyword.Keyword.TheVariants.{Skip as SkipWord, Goto as GotoWord, If as IfWord, Else as ElseWord, Return as ReturnWord}
 use Rattle.rh_il_text.specs.declared.word.Word.{Word}
 use Rattle.rh_il_text.specs.declared.word.Word.TheVariants.{Sign as SignWord, Keyword as KeywordWord, Name, Number}
 use Rattle.rh_il_text.specs.declared.source.Operand.{Operand}

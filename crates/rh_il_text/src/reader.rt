@@ -7,8 +7,8 @@ ghost use Rattle.rh_il_text.specs.Parts.{MoreRead, LocalsRead, BodyRead, SourceR
 
 use crate::source::{Line, Source};
 use crate::statement::{behind_keyword, behind_sign, closed_at, head_at, listed_at, name_at};
-use crate::word::{Keyword, Word};
-use rh_il::Name;
+use crate::word::Word;
+use rh_il::{Keyword, Name};
 use rh_list::Items;
 use rh_text::Sign;
 use std::alloc::{AllocError, Global};

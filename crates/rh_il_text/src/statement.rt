@@ -4,8 +4,8 @@ ghost use Rattle.std.specs.Prelude.{◌≡◌, ◌≤◌, ◌<◌, length, IfSom
 ghost use Rattle.rh_il_text.specs.Reading.{told, told_rest, behind_sign, behind_keyword, name_at, number_at, index_at, negative_at, operand_at, sign_op, op_at, behind_operand, call_at, behind_name, computed_at, value_at, assigned_at, write_at, targets_at, branch_at, statement_at, closed_at, listed_at, head_at};
 
 use crate::source::{Line, Operand};
-use crate::word::{Keyword, Word};
-use rh_il::{Name, Op};
+use crate::word::{Word, keyword_number};
+use rh_il::{Keyword, Name, Op};
 use rh_text::Sign;
 
 /// The words behind a sign.
@@ -27,7 +27,7 @@ pub(crate) fn behind_keyword(keyword: Keyword, words: &[Word]) -> Option<&[Word]
 {
     let (first, rest) = words.split_first()?;
     match *first {
-        Word::Keyword(other) if other.number() == keyword.number() => Some(rest),
+        Word::Keyword(other) if keyword_number(other) == keyword_number(keyword) => Some(rest),
         _ => None,
     }
 }

@@ -13,6 +13,3 @@ pub use lexer::{TEXT_LIMIT, texts_have_one_answer, tokens};
 pub use number::{decimal, signed};
 pub use sign::Sign;
 pub use token::{LexFault, Token, TokenKind};
-
-#[cfg(test)]
-mod tests;

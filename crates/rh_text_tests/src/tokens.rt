@@ -1,21 +1,22 @@
-use super::{LexFault, Sign, Token, TokenKind, tokens};
+//! Tokens of texts, and texts without tokens.
+use rh_text::{LexFault, Sign, TEXT_LIMIT, Token, TokenKind, tokens};
 use std::alloc::Global;
 use std::test::Fail;
+
+fn read(alloc: Global, text: &[u8]) -> Result<Vec<Token>, LexFault> {
+    if text.len() > TEXT_LIMIT {
+        return Err(LexFault::NoMemory);
+    }
+    tokens(alloc, text)
+}
 
 fn token(kind: TokenKind, start: u32, end: u32) -> Token {
     Token { kind, start, end }
 }
 
-fn fault_of(alloc: Global, text: &[u8]) -> Option<LexFault> {
-    if text.len() > super::TEXT_LIMIT {
-        return None;
-    }
-    tokens(alloc, text).err()
-}
-
 #[test]
 fn cuts_a_text(rt: HostRuntime) -> Result<(), Fail> {
-    let found = tokens(rt.alloc(), b"if 5goto\t# no X\r\n0:=X_ - -1=>5_")?;
+    let found = read(rt.alloc(), b"if 5goto\t# no X\r\n0:=X_ - -1=>5_")?;
     let want = [
         token(TokenKind::Lower, 0, 2),
         token(TokenKind::Number, 3, 4),
@@ -36,7 +37,7 @@ fn cuts_a_text(rt: HostRuntime) -> Result<(), Fail> {
 
 #[test]
 fn first_faults(rt: HostRuntime) {
-    let cases: [(&[u8], Option<LexFault>); 14] = [
+    let cases: [(&[u8], Option<LexFault>); 13] = [
         (b"", None),
         (b"# ?", None),
         (b"9223372036854775808", None),
@@ -49,31 +50,12 @@ fn first_faults(rt: HostRuntime) {
         ),
         (b"a : b ?", Some(LexFault::BadByte(2))),
         (b"a ! =", Some(LexFault::BadByte(2))),
-        (b"a = b", Some(LexFault::BadByte(2))),
         (b"a ==> b", Some(LexFault::BadByte(4))),
         (b"\x0c", Some(LexFault::BadByte(0))),
         (b"a \xc3\xa9", Some(LexFault::BadByte(2))),
         (b"? 9223372036854775809", Some(LexFault::BadByte(0))),
     ];
     for (text, want) in cases {
-        assert_eq!(rt; fault_of(rt.alloc(), text), want, "at {text:?}");
+        assert_eq!(rt; read(rt.alloc(), text).err(), want, "at {text:?}");
     }
-}
-
-fn values(alloc: Global, text: &[u8]) -> Result<Vec<u64>, LexFault> {
-    let mut values = Vec::new(alloc);
-    if text.len() > super::TEXT_LIMIT {
-        return Ok(values);
-    }
-    for token in tokens(alloc, text)? {
-        values.push(token.value(text))?;
-    }
-    Ok(values)
-}
-
-#[test]
-fn values_of_tokens(rt: HostRuntime) -> Result<(), Fail> {
-    let found = values(rt.alloc(), b"x1 007 -9223372036854775808")?;
-    assert_eq!(rt; found.as_slice(), [0, 7, 0, 1 << 63].as_slice());
-    Ok(())
 }

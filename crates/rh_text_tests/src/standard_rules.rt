@@ -1,12 +1,12 @@
-//! Whole files, read and printed.
+//! The standard rules, read and printed.
 use rh_rule_text::{print_rules, read_rules};
 use rh_text::TEXT_LIMIT;
 use std::alloc::Global;
 use std::process::Abort;
 use std::test::Fail;
 
-/// A canonical text of six facts and 41 rules, of every form of statement.
-const CANONICAL: &[u8] = b"rhodium 1;
+/// The standard rules in their canonical text: six facts and 41 rules, with every form of statement.
+const STANDARD: &[u8] = b"rhodium 1;
 fact con(var X, const C) means X == C;
 fact cpy(var X, var Y) means X == Y;
 fact pts(var P, var X) means P == &X;
@@ -84,7 +84,7 @@ fn prints_as(rt: &(impl Alloc<A = Global> + Abort), text: &[u8], want: &[u8]) ->
 
 #[test]
 fn canonical_text_stays(rt: HostRuntime) -> Result<(), Fail> {
-    prints_as(&rt, CANONICAL, CANONICAL)
+    prints_as(&rt, STANDARD, STANDARD)
 }
 
 #[test]
