@@ -3,6 +3,7 @@
 
 mod check;
 mod fault;
+mod keyword;
 mod kinds;
 mod numbers;
 mod rule;
@@ -14,6 +15,7 @@ mod uses;
 mod words;
 
 pub use fault::{Item, Many, RuleFault, RuleWrong};
+pub use keyword::{RuleKeyword, keyword_of};
 pub use rule::{Arg, Conclusion, FactUse, Form, Rule, RuleBase, Ruling, Side, SideTerm};
 pub use rule_file::RuleFile;
 pub use schema::{Kind, MeaningAtom, MeaningBase, MeaningTerm, Param, Schema};
