@@ -80,7 +80,7 @@ end {after} = space_piece 10 after refl
 mark : (sign : Sign) {after : List ℕ} → IsPiece (Mark sign) after
 mark sign {after} = sign_piece sign after
 
--- each part stands there, if what is behind it does
+-- each part stands there, if what is after it does
 module _ (rest : List ℕ) where
   operand_are : (x : Operand) (ps : List Piece) → OperandFits x → Ends ps rest → ArePieces ps rest → ArePieces (operand_onto x ps) rest
   operand_are (Var bytes) ps fits ends are = (name bytes fits ends, are)

@@ -62,7 +62,7 @@ abbrev pub body_onto : List Line → List Piece → List Piece
 body_onto [] ps = ps
 body_onto (line ∷ lines) ps = space ∷ space ∷ line_onto line (Mark Semicolon ∷ line_end ∷ body_onto lines ps)
 
--- the locals behind the first one
+-- the locals after the first one
 abbrev pub more_onto : List (List ℕ) → List Piece → List Piece
 more_onto [] ps = ps
 more_onto (name ∷ names) ps = Mark Comma ∷ space ∷ Word name ∷ more_onto names ps

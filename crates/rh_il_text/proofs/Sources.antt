@@ -39,7 +39,7 @@ module _ (α : List Symbol) (old : List (List ℕ)) (words : List Word) where
   by_locals : {C : Type 0} → (Derived declared words → C) → (Derived (Token open_brace ∷ α) words → C) → Derived (Rule locals ∷ Token open_brace ∷ α) words → C
   by_locals f g d = ⊎_elim f g (inverted productions locals (Token open_brace ∷ α) (classes_of words) d)
 
-  -- behind the word `var`
+  -- after the word `var`
   behind_is : (behind : List Word) → behind_keyword VarWord words ≡ Some behind → Derived declared words → (words ≡ KeywordWord VarWord ∷ behind) × Derived (Token name ∷ Rule more_locals ∷ Token open_brace ∷ α) behind
   behind_is behind is d =
       let p = var_there d in

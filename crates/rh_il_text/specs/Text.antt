@@ -55,7 +55,7 @@ stmt_text procs vars (Return value) = codes "return " ++ base_text vars value
 abbrev pub line_text : List Proc → List (List ℕ) → Stmt → List ℕ
 line_text procs vars stmt = codes "  " ++ stmt_text procs vars stmt ++ codes ";\n"
 
--- the locals behind the parameter
+-- the locals after the parameter
 abbrev pub locals_text : List (List ℕ) → List ℕ
 locals_text [] = []
 locals_text (first ∷ others) = codes " var " ++ first ++ flat_map (λ name. codes ", " ++ name) others

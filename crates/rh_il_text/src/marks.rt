@@ -1,4 +1,4 @@
-//! Which words are names that are missing.
+//! Which words are unknown names.
 
 ghost use Rattle.std.specs.Prelude.{◌≡◌, ◌++◌, map, OnOk, IfOk};
 ghost use Rattle.std.specs.List.{flat_map};
@@ -179,7 +179,7 @@ pub(crate) fn names_of(alloc: Global, sources: &[Source]) -> Result<Names, Alloc
     Names::of(alloc, &names)
 }
 
-/// For each word of procedures whether it is no name that is missing.
+/// For each word of procedures, whether it is anything but an unknown name.
 pub(crate) fn marks_of(
     alloc: Global,
     procs: &Names,

@@ -168,7 +168,7 @@ fn push_line(
     push(out, b";\n")
 }
 
-/// The names of locals, each behind a comma but the first.
+/// The names of locals, each after a comma but the first.
 fn push_locals(out: &mut Vec<u8>, locals: &[Name]) -> Result<(), AllocError>
     ensures { OnOk result (out.new.items ≡ out.old.items ++ locals_text locals.now) }
 {

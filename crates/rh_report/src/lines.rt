@@ -1,4 +1,4 @@
-//! A line for each rule, and the program behind them.
+//! A line for each rule, and the program after them.
 ghost use Rattle.std.specs.Prelude.{◌≡◌, ◌++◌, IfOk, OnOk, length};
 ghost use Rattle.std.specs.List.{AllByRecursion};
 ghost use Rattle.rh_il_text.specs.Program.{IsText};
@@ -80,7 +80,7 @@ fn are_numbered(rulings: &[Ruling])
     }
 }
 
-/// The output of `opt` for a rule file without schemas: each rule with what is ruled of it, and the
+/// The output of `opt` for a rule file without schemas: each rule with its ruling, and the
 /// rewritten program. The rules' lines are comments, so it is a text of that program.
 pub fn report(
     alloc: Global,

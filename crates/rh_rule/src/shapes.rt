@@ -84,9 +84,7 @@ fn class_of(form: Form) -> Class
 fn may_replace(template: Form, pattern: Form) -> bool
     ensures { result ≡ may_replace template pattern }
 {
-    is_statement(pattern)
-        && is_statement(template)
-        && class_of(template) == class_of(pattern)
+    is_statement(pattern) && is_statement(template) && class_of(template) == class_of(pattern)
 }
 
 fn fact_has_shape(fact: &FactUse) -> bool

@@ -180,7 +180,7 @@ module _ (schemas : List Schema) (facts : AreFacts schemas) (params : List Param
   TellsAll words =
       Tells words (λ conds. (flat_map (premises_of (facts_of schemas) (names_of params)) conds, flat_map (sides_of (names_of params)) conds)) (first_of unknown_name) (AllByRecursion CondInRange)
 
-  -- a text of conditions, behind which a name ends where it does behind what follows
+  -- a text of conditions, after which a name ends where it does after what follows
   record PrintsAll (words : List SourceCond → List Word) (text : List ℕ) (premises : List FactUse) (sides : List RuleSide) : Type 0 where
     prints : Prints Ends text (TellsAll words (premises, sides))
     ends : (rest : List ℕ) → Ends rest → Ends (text ++ rest)
@@ -188,7 +188,7 @@ module _ (schemas : List Schema) (facts : AreFacts schemas) (params : List Param
   abbrev more_words : List SourceCond → List Word
   more_words conds = flat_map (λ cond. Fixed COMMA ∷ cond_words cond) conds
 
-  -- one more condition behind a comma
+  -- one more condition after a comma
   one_more : {text others : List ℕ} (premise : List FactUse) (side : List RuleSide) (premises : List FactUse) (sides : List RuleSide) → Prints Ends text (TellsCond (premise, side)) → PrintsAll more_words others premises sides
       → PrintsAll more_words ((codes ", " ++ text) ++ others) (premise ++ premises) (side ++ sides)
   one_more premise side premises sides first others = record {
@@ -206,7 +206,7 @@ module _ (schemas : List Schema) (facts : AreFacts schemas) (params : List Param
     ends = λ rest h. refl;
   }
 
-  -- the first condition behind `when`
+  -- the first condition after `when`
   first_one : {text others : List ℕ} (premise : List FactUse) (side : List RuleSide) (premises : List FactUse) (sides : List RuleSide) → Prints Ends text (TellsCond (premise, side)) → PrintsAll more_words others premises sides
       → PrintsAll when_words ((codes " when " ++ text) ++ others) (premise ++ premises) (side ++ sides)
   first_one premise side premises sides first others = record {

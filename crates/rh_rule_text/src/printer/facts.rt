@@ -76,7 +76,7 @@ fn push_atom(
     }
 }
 
-/// The atoms of a meaning, each behind `and` but the first.
+/// The atoms of a meaning, each after `and` but the first.
 fn push_meaning(
     alloc: Global,
     out: &mut Vec<u8>,

@@ -24,7 +24,7 @@ fn push_param(out: &mut Vec<u8>, param: &Param) -> Result<(), AllocError>
     push(out, param.name.bytes())
 }
 
-/// Parameters, each behind a comma but the first.
+/// Parameters, each after a comma but the first.
 fn push_param_list(out: &mut Vec<u8>, params: &[Param]) -> Result<(), AllocError>
     ensures { OnOk result (out.new.items ≡ out.old.items ++ joined (codes ", ") param_text params.now) }
 {
