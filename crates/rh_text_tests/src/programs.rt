@@ -111,10 +111,7 @@ fn faults(rt: HostRuntime) {
             b"f(a) var a { goto 9; } f(b) { }",
             wrong(ProgWrong::DuplicateName, 1, 0),
         ),
-        (
-            b"f(a) { goto 9; skip; }",
-            wrong(ProgWrong::BadTarget, 0, 0),
-        ),
+        (b"f(a) { goto 9; skip; }", wrong(ProgWrong::BadTarget, 0, 0)),
     ];
     for (text, want) in cases {
         assert_eq!(rt; read(rt.alloc(), text).err(), want, "at {text:?}");
@@ -197,13 +194,14 @@ fn limits(rt: HostRuntime) -> Result<(), Fail> {
     Ok(())
 }
 
+/// A text of nearly as many bytes as a text may have, which ends before its `}`.
 #[test]
 fn longest_text(rt: HostRuntime) -> Result<(), Fail> {
     let mut text = Vec::from_slice(rt.alloc(), b"main(a) {")?;
-    for _ in 0..(TEXT_LIMIT - 9) / 5 {
+    for _ in 0..209_713 {
         text.extend_from_slice(b"skip;")?;
     }
-    let want = Some(ReadFault::Syntax(text.len() as u32));
+    let want = Some(ReadFault::Syntax(1_048_574));
     assert_eq!(rt; read(rt.alloc(), &text).err(), want);
     Ok(())
 }

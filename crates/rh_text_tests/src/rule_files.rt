@@ -133,10 +133,7 @@ fn rules_that_fail_a_check(rt: HostRuntime) -> Result<(), Fail> {
             b"rule q(var A, var X) { entry(A) when f(X) @ in => f(X) @ out }",
             RuleWrong::BadSlot,
         ),
-        (
-            b"rule q(var X) { if X => f(X) @ out }",
-            RuleWrong::BadSlot,
-        ),
+        (b"rule q(var X) { if X => f(X) @ out }", RuleWrong::BadSlot),
         (
             b"rule q(var X) { return X => f(X) @ out }",
             RuleWrong::BadSlot,
