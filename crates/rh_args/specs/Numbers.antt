@@ -29,7 +29,7 @@ without_sign text = if is_negative text then drop 1 text else text
 unfoldable pub argument : List ℕ → Option ℤ
 argument text = option_and_then (signed (is_negative text)) (digits_up_to 19 (without_sign text))
 
--- the number behind a front, where the word begins with it
+-- the number after a front, where the word begins with it
 unfoldable pub number_after : List ℕ → List ℕ → Option ℕ
 number_after front word = if starts_with (λ a b. a == b) word front then small_number (drop (length front) word) else None
 

@@ -7,6 +7,3 @@ mod number;
 mod shape;
 
 pub use command::{Command, UsageAt, read_words};
-
-#[cfg(test)]
-mod tests;

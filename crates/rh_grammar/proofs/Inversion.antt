@@ -1,5 +1,6 @@
 -- Derivations taken apart over the productions of one nonterminal.
 use Rattle.std.proofs.Common.{◌≡◌, ℕ, zero, suc, Bool, true, false, eqb, cond, ◌⊎◌, inl, inr, List, [], ◌∷◌, ◌++◌, Option, Some, refl, sym, ap, subst}
+use Rattle.std.proofs.lemmas.Option.{same_Some}
 use Rattle.std.proofs.lemmas.Bool.{eq-eqb}
 use Rattle.std.specs.Prelude.{slice_get}
 use Rattle.rh_grammar.specs.declared.grammar.Symbol.{Symbol}
@@ -22,9 +23,6 @@ data IsAmong {X : Type 0} (x : X) : List X → Type 0 where
   first : {xs : List X} → IsAmong x (x ∷ xs)
   later : {y : X} {xs : List X} → IsAmong x xs → IsAmong x (y ∷ xs)
 
-some_is : {X : Type 0} (x y : X) → ◌≡◌ {A = Option X} (Some x) (Some y) → x ≡ y
-some_is x y e = cc
-
 -- kept behind another one, or alone
 kept : (test : Bool) (to side : List Symbol) (sides : List (List Symbol)) → IsAmong to sides → IsAmong to (cond test (side ∷ sides) sides)
 kept true to side sides among = later among
@@ -33,7 +31,7 @@ kept false to side sides among = among
 side_among : (rules : List (ℕ × List Symbol)) (rule p : ℕ) (to : List Symbol) → slice_get rules p ≡ Some (rule, to) → IsAmong to (sides_of rules rule)
 side_among [] rule p to is = absurd cc
 side_among ((of, side) ∷ rules) rule zero to is =
-    let same = some_is (of, side) (rule, to) is in
+    let same = same_Some (of, side) (rule, to) is in
     let test : eqb of rule ≡ true = eq-eqb of rule (ap (λ q. q.0) same) in
     rw test (subst (λ s. IsAmong to (s ∷ sides_of rules rule)) (sym (ap (λ q. q.1) same)) first)
 side_among ((of, side) ∷ rules) rule (suc p) to is =

@@ -1,10 +1,12 @@
 -- A grammar that passes the test is decided by one token, and each nonterminal derives something.
 use Rattle.std.proofs.Common.{◌≡◌, ℕ, zero, suc, ◌+◌, ◌<◌, Bool, true, false, ◌&&◌, eqb, List, [], ◌∷◌, length, map, Option, Some, None, is_some, refl, sym, ap, ◌∙◌, subst, arith, ⊎_elim}
+use Rattle.std.proofs.lemmas.Option.{same_Some}
 use Rattle.std.proofs.lemmas.Bool.{and_parts, or_cases, false≢true, ltb-true, leb-true, eqb-true, cases_lt}
 use Rattle.std.specs.Prelude.{slice_get, slice_index, is_none, nat_lt, nat_le}
 use Rattle.std.specs.Option.{option_and_then, option_map}
 use Rattle.std.specs.List.{list_all}
 use Rattle.std.specs.Borrow.{Bor}
+use Rattle.rh_list.proofs.AtPlace.{passes_at}
 use Rattle.rh_grammar.specs.declared.grammar.Symbol.{Symbol}
 use Rattle.rh_grammar.specs.declared.grammar.Symbol.TheVariants.{Token, Rule}
 use Rattle.rh_grammar.specs.declared.grammar.Production.{Production}
@@ -34,9 +36,6 @@ none_is : (o : Option ℕ) → is_none o ≡ true → o ≡ None
 none_is None h = refl
 none_is (Some n) h = absurd (false≢true h)
 
-some_is : {X : Type 0} (x y : X) → ◌≡◌ {A = Option X} (Some x) (Some y) → x ≡ y
-some_is x y e = cc
-
 slice_get-map : {X Y : Type 0} (f : X → Y) (xs : List X) (i : ℕ) → slice_get (map f xs) i ≡ option_map f (slice_get xs i)
 slice_get-map f [] i = refl
 slice_get-map f (x ∷ xs) zero = refl
@@ -47,11 +46,6 @@ read_below : {X : Type 0} (xs : List X) (i : ℕ) (x : X) → slice_get xs i ≡
 read_below [] i x e = let gone : None ≡ Some x = e in absurd cc
 read_below (y ∷ ys) zero x e = omega arith
 read_below (y ∷ ys) (suc i) x e = let rest = read_below ys i x e in omega arith
-
-read_all : {X : Type 0} (test : X → Bool) (xs : List X) (i : ℕ) (x : X) → list_all test xs ≡ true → slice_get xs i ≡ Some x → test x ≡ true
-read_all test [] i x all e = let gone : None ≡ Some x = e in absurd cc
-read_all test (y ∷ ys) zero x all e = ap test (some_is x y (sym e)) ∙ (and_parts _ _ all).0
-read_all test (y ∷ ys) (suc i) x all e = read_all test ys i x (and_parts _ _ all).1 e
 
 is_some_of : (o : Option ℕ) → is_some o ≡ true → (p : ℕ) × (o ≡ Some p)
 is_some_of None h = absurd (false≢true h)
@@ -65,7 +59,7 @@ cell_within xs class p (Some q) e h = read_below xs class q e
 choice_in : (t : Tables) (rows : List (Bor (List (Option ℕ)))) (rule class p : ℕ) (o : Option (Bor (List (Option ℕ)))) → list_all (λ (row : Bor (List (Option ℕ))). nat_le (length row.now) t.classes) rows ≡ true → slice_get rows rule ≡ o → option_and_then (λ (row : Bor (List (Option ℕ))). option_and_then (λ (q : Option ℕ). q) (slice_get row.now class)) o ≡ Some p → (rule < length rows) × (class < t.classes)
 choice_in t rows rule class p None short e h = let gone : None ≡ Some p = h in absurd cc
 choice_in t rows rule class p (Some row) short e h =
-    let low = leb-true _ _ (read_all (λ (r : Bor (List (Option ℕ))). nat_le (length r.now) t.classes) rows rule row short e) in
+    let low = leb-true _ _ (passes_at (λ (r : Bor (List (Option ℕ))). nat_le (length r.now) t.classes) rows rule row short e) in
     let at = cell_within row.now class p (slice_get row.now class) refl h in
     (read_below rows rule row e, omega arith)
 
@@ -152,7 +146,7 @@ module _ (g : Grammar) (t : Tables) (parts : Parts g t) where
   production_read p (q ∷ ps) zero one h read =
       let first = (and_parts (production_passes g t p q.of q.to.now) (productions_pass g t (suc p) ps) h).0 in
       let here : p ≡ p + 0 = omega arith in
-      subst (λ n. production_passes g t n one.of one.to.now ≡ true) here (subst (λ r. production_passes g t p r.of r.to.now ≡ true) (some_is q one read) first)
+      subst (λ n. production_passes g t n one.of one.to.now ≡ true) here (subst (λ r. production_passes g t p r.of r.to.now ≡ true) (same_Some q one read) first)
   production_read p (q ∷ ps) (suc i) one h read =
       let rest = (and_parts (production_passes g t p q.of q.to.now) (productions_pass g t (suc p) ps) h).1 in
       let here : suc p + i ≡ p + suc i = omega arith in
@@ -161,7 +155,7 @@ module _ (g : Grammar) (t : Tables) (parts : Parts g t) where
   decided_read : (p rule : ℕ) (to : List Symbol) (o : Option Production) → slice_get g.productions.now p ≡ o → option_map {U = ℕ × List Symbol} (λ (q : Production). (q.of, q.to.now)) o ≡ Some (rule, to) → IsDecided g (evidence_of t) p rule to
   decided_read p rule to None read h = let gone : ◌≡◌ {A = Option (ℕ × List Symbol)} None (Some (rule, to)) = h in absurd cc
   decided_read p rule to (Some one) read h =
-      let pair = some_is {X = ℕ × List Symbol} (one.of, one.to.now) (rule, to) h in
+      let pair = same_Some {A = ℕ × List Symbol} (one.of, one.to.now) (rule, to) h in
       let here : 0 + p ≡ p = omega arith in
       let passes = subst (λ n. production_passes g t n one.of one.to.now ≡ true) here (production_read 0 g.productions.now p one parts.productions read) in
       subst (λ (q : ℕ × List Symbol). IsDecided g (evidence_of t) p q.0 q.1) pair (decided_from p one.of one.to.now passes)
@@ -177,7 +171,7 @@ module _ (g : Grammar) (t : Tables) (parts : Parts g t) where
 
   entry_of : (rule class p : ℕ) (o : Option ℕ) → choice g rule class ≡ o → entry_passes g rule o ≡ true → o ≡ Some p → IsProductionOf g rule p
   entry_of rule class p None h passes some = let gone : None ≡ Some p = some in absurd cc
-  entry_of rule class p (Some q) h passes some = subst (IsProductionOf g rule) (some_is q p some) (of_from q rule (production_at g q) refl passes)
+  entry_of rule class p (Some q) h passes some = subst (IsProductionOf g rule) (same_Some q p some) (of_from q rule (production_at g q) refl passes)
 
   choices_from : (rule class p : ℕ) → choice g rule class ≡ Some p → IsProductionOf g rule p
   choices_from rule class p h =

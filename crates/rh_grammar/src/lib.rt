@@ -3,9 +3,7 @@
 
 mod grammar;
 mod parser;
+mod tables;
 
 pub use grammar::{Grammar, Production, Symbol};
 pub use parser::{ParseFault, parse};
-
-#[cfg(test)]
-mod tests;

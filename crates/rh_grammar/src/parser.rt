@@ -15,7 +15,8 @@ use std::alloc::{AllocError, AllocFailed, Global};
 /// Why a nonterminal doesn't derive tokens.
 #[derive(Clone, Copy, Debug, PartialEq, Eq)]
 pub enum ParseFault {
-    /// The number of the token at which they stop to begin a derivable list, or of the tokens.
+    /// The place of the first token that cannot continue a derivable list, or the number of tokens
+    /// where they end too early.
     Syntax(usize),
     NoMemory,
 }
@@ -135,7 +136,7 @@ fn finish(
 }
 
 /// The productions by which a nonterminal derives tokens, in the order in which they replace the
-/// leftmost nonterminal; or the token at which the tokens stop to begin a derivable list.
+/// leftmost nonterminal; or the first token that cannot continue a derivable list.
 ///
 /// The parser is the one for LL(1) grammars of "Compilers: Principles, Techniques, and Tools" by
 /// Aho, Lam, Sethi and Ullman, 2006, with the empty productions as the default.

@@ -48,7 +48,7 @@ append_nothing : {X : Type 0} (xs : List X) → xs ++ [] ≡ xs
 append_nothing [] = refl
 append_nothing (x ∷ xs) = ap (λ r. x ∷ r) (append_nothing xs)
 
--- the argument behind those that are bound
+-- the argument after those that are bound
 bound_behind : (old : Binding) (arg : Arg) (rest : Binding) → bound (old ++ arg ∷ rest) (length old) ≡ arg
 bound_behind [] arg rest = refl
 bound_behind (a ∷ old) arg rest = bound_behind old arg rest
@@ -97,7 +97,7 @@ module _ (proc : Proc) (others : List Param) (pattern : Form) (stmt : Stmt) (old
   one_behind : (k : ℕ) (rest : Binding) → goes pattern stmt (old ++ Var k ∷ []) rest ≡ goes pattern stmt old (Var k ∷ rest)
   one_behind k rest = ap (λ b. matches b pattern stmt) (append_one old (Var k) rest)
 
-  -- nothing was found behind the variable
+  -- nothing was found after the variable
   pub tried : (k : ℕ) (new : Binding) → k < length proc.vars → Finds proc others pattern stmt (old ++ Var k ∷ []) false new
       → first_from proc others pattern stmt old k ≡ first_from proc others pattern stmt old (k + 1)
   tried k new below finds =
@@ -133,7 +133,7 @@ from_first proc params param others pattern stmt old is vars =
     ∙ ap (λ k. find (goes pattern stmt old) (flat_map (λ arg. map (λ rest. arg ∷ rest) (bindings proc others)) (args_of proc k))) kind
     ∙ ap (λ n. find (goes pattern stmt old) (flat_map (λ arg. map (λ rest. arg ∷ rest) (bindings proc others)) (map Var (range_with_len 0 n)))) (sym (none_taken (length proc.vars)))
 
--- what was found behind no argument is the first of all
+-- what was found after no argument is the first of all
 pub found_all : (proc : Proc) (params : List Param) (pattern : Form) (stmt : Stmt) (old : Binding) (found : Bool) (new : Binding) → old ≡ [] → found ≡ true
     → Finds proc params pattern stmt old found new → Some new ≡ find (λ binding. matches binding pattern stmt) (bindings proc params)
 found_all proc params pattern stmt old true new is_empty is_found finds =
@@ -175,7 +175,7 @@ finds_at_end proc params pattern stmt old found is_empty is =
     elim found as (λ f. find (goes pattern stmt old) (bindings proc params) ≡ cond f (Some []) None → Finds proc params pattern stmt old f old)
     [ true ↦ λ first. ([], sym (append_nothing old), first) | false ↦ λ first. (refl, first) ] all
 
--- what was found behind a binding that was put together
+-- what was found after a binding that was put together
 pub finds_moved : (proc : Proc) (others : List Param) (pattern : Form) (stmt : Stmt) (pushed old : Binding) (arg : Arg) (found result : Bool) (new : Binding) → pushed ≡ old ++ arg ∷ [] → found ≡ result
     → Finds proc others pattern stmt pushed found new → Finds proc others pattern stmt (old ++ arg ∷ []) result new
 finds_moved proc others pattern stmt pushed old arg found result new is result_is finds =

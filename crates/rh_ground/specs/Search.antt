@@ -13,7 +13,7 @@ use Rattle.rh_ground.specs.Match.{matches}
 abbrev pub AreVars : List Param → Type 0
 AreVars params = AllByRecursion (λ param. param.kind ≡ Var) params
 
--- the first arguments of the metavariables under which, behind those that are bound, the pattern is the
+-- the first arguments of the metavariables under which, after those that are bound, the pattern is the
 -- statement; or there are none, and the binding stays
 abbrev pub Finds : Proc → List Param → Form → Stmt → Binding → Bool → Binding → Type 0
 Finds proc params pattern stmt old true new =

@@ -1,20 +1,9 @@
 //! What metavariables are bound to.
 ghost use Rattle.std.specs.Prelude.{◌≡◌};
-ghost use Rattle.rh_ground.specs.Binding.{arg_eq, arg_under, as_base, as_variable, base_under, bound, variable_under};
+ghost use Rattle.rh_ground.specs.Binding.{arg_under, as_base, as_variable, base_under, bound, variable_under};
 
 use rh_il::Base;
 use rh_rule::{Arg, RuleBase};
-
-/// Whether two arguments are one.
-pub(crate) fn arg_eq(a: Arg, b: Arg) -> bool
-    ensures { result ≡ arg_eq a b }
-{
-    match (a, b) {
-        (Arg::Var(a), Arg::Var(b)) => a == b,
-        (Arg::Const(a), Arg::Const(b)) => a == b,
-        _ => false,
-    }
-}
 
 /// What a metavariable is bound to.
 pub(crate) fn bound(binding: &[Arg], meta: u32) -> Arg

@@ -1,27 +1,15 @@
 //! Which statements a pattern is under a binding, and which statement a template is.
 ghost use Rattle.std.specs.Prelude.{◌≡◌};
-ghost use Rattle.rh_il.specs.Op.{op_eq};
-ghost use Rattle.rh_ground.specs.Match.{assigns, base_eq, callee_of, is_operand, is_variable, matches, other_of, taken_of, template_under};
+ghost use Rattle.rh_ground.specs.Match.{assigns, callee_of, is_operand, is_variable, matches, other_of, taken_of, template_under};
 
-use crate::binding::{arg_eq, base_under, bound, variable_under};
-use rh_il::{Base, Op, Stmt};
+use crate::binding::{base_under, bound, variable_under};
+use rh_il::{Base, Stmt};
 use rh_rule::{Arg, Form, RuleBase};
-
-/// Whether two operands are one.
-pub(crate) fn base_eq(a: Base, b: Base) -> bool
-    ensures { result ≡ base_eq a b }
-{
-    match (a, b) {
-        (Base::Var(a), Base::Var(b)) => a == b,
-        (Base::Num(a), Base::Num(b)) => a == b,
-        _ => false,
-    }
-}
 
 fn is_variable(binding: &[Arg], meta: u32, variable: u32) -> bool
     ensures { result ≡ is_variable binding.now meta variable }
 {
-    arg_eq(bound(binding, meta), Arg::Var(variable))
+    bound(binding, meta) == Arg::Var(variable)
 }
 
 fn is_operand(binding: &[Arg], operand: RuleBase, base: Base) -> bool
@@ -29,22 +17,9 @@ fn is_operand(binding: &[Arg], operand: RuleBase, base: Base) -> bool
 {
     match operand {
         RuleBase::Wild => true,
-        RuleBase::Meta(_) => base_eq(base_under(binding, operand), base),
-        RuleBase::Num(number) => base_eq(Base::Num(number), base),
+        RuleBase::Meta(_) => base_under(binding, operand) == base,
+        RuleBase::Num(number) => Base::Num(number) == base,
     }
-}
-
-fn op_eq(a: Op, b: Op) -> bool
-    ensures { result ≡ op_eq a b }
-{
-    matches!(
-        (a, b),
-        (Op::Add, Op::Add)
-            | (Op::Sub, Op::Sub)
-            | (Op::Mul, Op::Mul)
-            | (Op::Less, Op::Less)
-            | (Op::Equal, Op::Equal)
-    )
 }
 
 /// Whether a statement is an assignment, but no call, to the variable of a metavariable.
@@ -92,7 +67,7 @@ pub(crate) fn matches(binding: &[Arg], pattern: Form, stmt: Stmt) -> bool
             },
         ) => {
             is_variable(binding, to, x)
-                && op_eq(op, sign)
+                && op == sign
                 && is_operand(binding, left, a)
                 && is_operand(binding, right, b)
         }

@@ -6,8 +6,8 @@ ghost use Rattle.rh_ground.specs.Binding.{Binding, bindings, bound};
 ghost use Rattle.rh_ground.specs.Match.{is_operand, is_variable, matches};
 ghost use Rattle.rh_ground.specs.Search.{AreVars, Finds};
 
-use crate::binding::{arg_eq, as_base};
-use crate::matching::{base_eq, matches};
+use crate::binding::as_base;
+use crate::matching::matches;
 use rh_il::{Base, Proc, Stmt};
 use rh_rule::{Arg, Form, Param, RuleBase};
 use std::alloc::{AllocError, Global};
@@ -33,7 +33,7 @@ pub fn first_match(
     }
 }
 
-/// Puts the first arguments of the parameters that are left behind a binding under which the
+/// Puts the first arguments of the parameters that are left after a binding under which the
 /// pattern is the statement, or leaves it as it was where there are none.
 fn extend(
     proc: &Proc,
@@ -68,7 +68,7 @@ fn extend(
 fn variable_agrees(meta: usize, arg: Arg, name: u32, variable: u32) -> bool
     ensures { (binding : Binding) → bound binding meta ≡ arg → is_variable binding name variable ≡ true → result ≡ true }
 {
-    name as usize != meta || arg_eq(arg, Arg::Var(variable))
+    name as usize != meta || arg == Arg::Var(variable)
 }
 
 /// The same of an operand.
@@ -76,7 +76,7 @@ fn operand_agrees(meta: usize, arg: Arg, operand: RuleBase, base: Base) -> bool
     ensures { (binding : Binding) → bound binding meta ≡ arg → is_operand binding operand base ≡ true → result ≡ true }
 {
     match operand {
-        RuleBase::Meta(name) => name as usize != meta || base_eq(as_base(arg), base),
+        RuleBase::Meta(name) => name as usize != meta || as_base(arg) == base,
         _ => true,
     }
 }

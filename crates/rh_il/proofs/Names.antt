@@ -5,7 +5,7 @@ use Rattle.std.proofs.Math.Seq.{take-append_seam}
 use Rattle.rh_il.specs.Name.{is_name}
 use Rattle.rh_il.specs.Spelling.{IsSpelling, padded}
 
--- a name and zeros behind it, in place of as many zeros
+-- a name, then zeros, in place of as many zeros
 pub spelled : (name : List ℕ) → is_name name ≡ true → IsSpelling (name ++ drop (length name) (replicate 32 0)) (length name)
 spelled name named =
     let front : take (length name) (name ++ drop (length name) (replicate 32 0)) ≡ name = take-append_seam name _ in

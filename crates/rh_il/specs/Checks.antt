@@ -1,8 +1,9 @@
 -- The checks of a program, in their order.
-use Rattle.std.specs.Prelude.{◌≡◌, ℕ, zero, suc, ◌-◌, ◌≤◌, Bool, true, false, not, ◌&&◌, nat_lt, nat_le, List, [], ◌∷◌, length, take, Option, Some, None, codes, slice_get, slice_index_or}
+use Rattle.std.specs.Prelude.{◌≡◌, ℕ, zero, suc, ◌-◌, ◌≤◌, Bool, true, false, not, ◌&&◌, nat_lt, nat_le, List, [], length, take, Option, Some, None, codes, slice_get, slice_index_or}
 use Rattle.std.specs.List.{list_any, list_all, position}
-use Rattle.std.specs.Option.{option_or, option_and_then, option_map_or}
+use Rattle.std.specs.Option.{is_none, option_or, option_and_then, option_map_or}
 use Rattle.std.specs.Str.{bytes_eq}
+use Rattle.rh_il.specs.Keywords.{keyword_of}
 use Rattle.rh_il.specs.Name.{is_lower_name}
 use Rattle.rh_il.specs.declared.program.Base.{Base}
 use Rattle.rh_il.specs.declared.program.Base.TheVariants.{Var, Num}
@@ -15,13 +16,9 @@ use Rattle.rh_il.specs.declared.fault.ProgWrong.TheVariants.{DuplicateName, BadN
 use Rattle.rh_il.specs.declared.fault.ProgFault.{ProgFault}
 use Rattle.rh_il.specs.declared.fault.ProgFault.TheVariants.{Wrong}
 
--- the words of programs that are no names
-abbrev pub keywords : List (List ℕ)
-keywords = codes "skip" ∷ codes "goto" ∷ codes "if" ∷ codes "else" ∷ codes "return" ∷ codes "new" ∷ codes "var" ∷ []
-
--- a name that begins with a small letter and is none of those words
+-- a name that begins with a small letter and is no reserved word
 abbrev pub is_proper : List ℕ → Bool
-is_proper name = is_lower_name name && not (list_any (bytes_eq name) keywords)
+is_proper name = is_lower_name name && is_none (keyword_of name)
 
 abbrev pub has_proper_names : Proc → Bool
 has_proper_names proc = is_proper proc.name && list_all is_proper proc.vars
@@ -64,14 +61,14 @@ has_targets stmts (Goto to) = nat_lt to stmts
 has_targets stmts (If cond taken other) = nat_lt taken stmts && nat_lt other stmts
 has_targets stmts stmt = true
 
--- no edge leads from the statement to the next one
+-- control does not go on to the next statement
 abbrev pub is_jump : Stmt → Bool
 is_jump (Goto to) = true
 is_jump (If cond taken other) = true
 is_jump (Return value) = true
 is_jump stmt = false
 
--- the body has a last statement, and no edge leads behind it
+-- control cannot run off the end of the body
 abbrev pub is_closed : List Stmt → Bool
 is_closed body = option_map_or is_jump (slice_get body (length body - 1)) false
 
@@ -80,7 +77,7 @@ abbrev pub stmt_fault : ℕ → ℕ → Proc → ℕ → Stmt → Option ProgFau
 stmt_fault procs proc p item stmt =
     option_or (unless (has_numbers procs (length p.vars) stmt) BadNumber proc item) (unless (has_targets (length p.body) stmt) BadTarget proc item)
 
--- that of a procedure with this number, of so many
+-- the first fault of a procedure with this number, in a program of so many
 unfoldable pub proc_fault : ℕ → ℕ → Proc → Option ProgFault
 proc_fault procs proc p =
     option_or (unless (nat_le 1 (length p.vars) && nat_le (length p.vars) 64) (Limit Vars) proc 0)
@@ -97,7 +94,7 @@ is_called name proc = bytes_eq name proc.name
 abbrev pub is_new_proc_at : List Proc → ℕ → Bool
 is_new_proc_at procs i = option_map_or (λ p. not (list_any (is_called p.name) (take i procs))) (slice_get procs i) true
 
--- that of the procedures of a program
+-- the first fault of the procedures of a program
 unfoldable pub program_fault : List Proc → Option ProgFault
 program_fault procs =
     option_or (unless (nat_le (length procs) 256) (Limit Procs) 0 0)

@@ -1,4 +1,5 @@
 pub mod Name
+pub mod Keywords
 pub mod Spelling
 pub mod Value
 pub mod Op

@@ -7,7 +7,7 @@ use Rattle.std.specs.Char.{is_ascii_alphabetic, is_ascii_alphanumeric, is_ascii_
 abbrev pub is_word_byte : ℕ → Bool
 is_word_byte byte = is_ascii_alphanumeric byte || byte == 95
 
--- a letter, and at most 31 letters, digits and `_` behind it
+-- a letter, and at most 31 letters, digits and `_` after it
 abbrev pub is_name : List ℕ → Bool
 is_name [] = false
 is_name (first ∷ rest) = is_ascii_alphabetic first && (nat_le (length rest) 31 && list_all is_word_byte rest)

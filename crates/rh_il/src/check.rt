@@ -5,6 +5,7 @@ ghost use Rattle.std.specs.List.{list_any, position};
 ghost use Rattle.std.specs.Str.{bytes_eq};
 ghost use Rattle.rh_il.specs.Checks.{first_some, unless, is_new_at, is_base, has_numbers, has_targets, is_jump, is_closed, stmt_fault, proc_fault, program_fault, is_called, is_new_proc_at};
 ghost use Rattle.std.specs.Option.{option_and_then};
+ghost use Rattle.std.specs.Result.{result_err};
 ghost use Rattle.std.specs.Prelude.{slice_get};
 ghost use Rattle.rh_il.specs.declared.fault.ProgWrong.TheVariants.{DuplicateName};
 
@@ -21,14 +22,14 @@ const MOST_VARS: usize = 64;
 /// The most statements of a procedure.
 const MOST_STMTS: usize = 1024;
 
-/// The fault, if a test fails.
-fn unless(holds: bool, kind: ProgWrong, proc: u32, item: u32) -> Option<ProgFault>
-    ensures { result ≡ unless holds kind proc item }
+/// Fails unless the test holds.
+fn ensure(holds: bool, kind: ProgWrong, proc: u32, item: u32) -> Result<(), ProgFault>
+    ensures { result_err result ≡ unless holds kind proc item }
 {
     if holds {
-        None
+        Ok(())
     } else {
-        Some(ProgFault::Wrong { kind, proc, item })
+        Err(ProgFault::Wrong { kind, proc, item })
     }
 }
 
@@ -93,7 +94,7 @@ fn is_jump(stmt: Stmt) -> bool
     )
 }
 
-/// Whether a body has a last statement, and no edge leads behind it.
+/// Whether control cannot run off the end of a body.
 fn is_closed(body: &[Stmt]) -> bool
     ensures { result ≡ is_closed body.now }
 {
@@ -103,19 +104,20 @@ fn is_closed(body: &[Stmt]) -> bool
     }
 }
 
-/// The first fault of a statement.
-fn stmt_fault(procs: usize, number: u32, proc: &Proc, item: u32, stmt: Stmt) -> Option<ProgFault>
-    ensures { result ≡ stmt_fault procs number proc.now item stmt }
+fn check_stmt(
+    procs: usize,
+    number: u32,
+    proc: &Proc,
+    item: u32,
+    stmt: Stmt,
+) -> Result<(), ProgFault>
+    ensures { result_err result ≡ stmt_fault procs number proc.now item stmt }
 {
     let vars = proc.vars.len();
     let stmts = proc.body.len();
-    unless(
-        has_numbers(procs, vars, stmt),
-        ProgWrong::BadNumber,
-        number,
-        item,
-    )
-    .or(unless(has_targets(stmts, stmt), ProgWrong::BadTarget, number, item))
+    let in_range = has_numbers(procs, vars, stmt);
+    ensure(in_range, ProgWrong::BadNumber, number, item)?;
+    ensure(has_targets(stmts, stmt), ProgWrong::BadTarget, number, item)
 }
 
 fn is_among(names: &[Name], name: &[u8]) -> bool
@@ -132,70 +134,44 @@ fn is_new_at(names: &[Name], place: usize) -> bool
     !is_among(&names[..place], names[place].bytes())
 }
 
-/// The first variable whose name an earlier one has.
-fn vars_fault(vars: &[Name], number: u32) -> Option<ProgFault>
+/// Fails at the first variable whose name an earlier one has.
+fn check_vars(vars: &[Name], number: u32) -> Result<(), ProgFault>
     requires { length vars.now < 2 ^ 32 }
-    ensures { result ≡ first_some (length vars.now) (λ item. unless (is_new_at vars.now item) DuplicateName number item) }
+    ensures { result_err result ≡ first_some (length vars.now) (λ item. unless (is_new_at vars.now item) DuplicateName number item) }
 {
     for item in 0..vars.len() {
-        let fault = unless(
-            is_new_at(vars, item),
-            ProgWrong::DuplicateName,
-            number,
-            item as u32,
-        );
-        if fault.is_some() {
-            return fault;
-        }
+        let is_new = is_new_at(vars, item);
+        ensure(is_new, ProgWrong::DuplicateName, number, item as u32)?;
     }
-    None
+    Ok(())
 }
 
-/// The first fault of the statements of a procedure.
-fn body_fault(procs: usize, number: u32, proc: &Proc) -> Option<ProgFault>
+fn check_body(procs: usize, number: u32, proc: &Proc) -> Result<(), ProgFault>
     requires { length proc.now.body < 2 ^ 32 }
-    ensures { result ≡ first_some (length proc.now.body) (λ item. option_and_then (stmt_fault procs number proc.now item) (slice_get proc.now.body item)) }
+    ensures { result_err result ≡ first_some (length proc.now.body) (λ item. option_and_then (stmt_fault procs number proc.now item) (slice_get proc.now.body item)) }
 {
     for (item, stmt) in proc.body.as_slice().iter().enumerate() {
-        let fault = stmt_fault(procs, number, proc, item as u32, *stmt);
-        if fault.is_some() {
-            return fault;
-        }
+        check_stmt(procs, number, proc, item as u32, *stmt)?;
     }
-    None
+    Ok(())
 }
 
-/// The first fault of a procedure, of a program of so many.
+/// The checks of one procedure, in a program of so many.
 #[tactic(auto, unfolding(crate::specs::Checks::proc_fault))]
-fn proc_fault(procs: usize, number: u32, proc: &Proc) -> Option<ProgFault>
-    ensures { result ≡ proc_fault procs number proc.now }
+fn check_proc(procs: usize, number: u32, proc: &Proc) -> Result<(), ProgFault>
+    ensures { result_err result ≡ proc_fault procs number proc.now }
 {
     let vars = proc.vars.as_slice();
     let body = proc.body.as_slice();
-    let bound = ProgWrong::Limit(Limited::Vars);
-    let fault = unless(1 <= vars.len() && vars.len() <= MOST_VARS, bound, number, 0);
-    if fault.is_some() {
-        return fault;
-    }
-    let fault = vars_fault(vars, number);
-    if fault.is_some() {
-        return fault;
-    }
-    let bound = ProgWrong::Limit(Limited::Stmts);
-    let fault = unless(body.len() <= MOST_STMTS, bound, number, 0);
-    if fault.is_some() {
-        return fault;
-    }
-    let fault = body_fault(procs, number, proc);
-    if fault.is_some() {
-        return fault;
-    }
-    unless(
-        is_closed(body),
-        ProgWrong::FallsOff,
-        number,
-        body.len() as u32,
-    )
+    let too_many = ProgWrong::Limit(Limited::Vars);
+    let fits = 1 <= vars.len() && vars.len() <= MOST_VARS;
+    ensure(fits, too_many, number, 0)?;
+    check_vars(vars, number)?;
+    let too_many = ProgWrong::Limit(Limited::Stmts);
+    ensure(body.len() <= MOST_STMTS, too_many, number, 0)?;
+    check_body(procs, number, proc)?;
+    let end = body.len() as u32;
+    ensure(is_closed(body), ProgWrong::FallsOff, number, end)
 }
 
 /// The place of the first procedure of a name.
@@ -220,52 +196,36 @@ fn has_proc(procs: &[Proc], name: &[u8]) -> bool
     procs.iter().any(|proc| name == proc.name.bytes())
 }
 
-/// The first procedure whose name an earlier one has.
-fn names_fault(procs: &[Proc]) -> Option<ProgFault>
+/// Fails at the first procedure whose name an earlier one has.
+fn check_names(procs: &[Proc]) -> Result<(), ProgFault>
     requires { length procs.now < 2 ^ 32 }
-    ensures { result ≡ first_some (length procs.now) (λ proc. unless (is_new_proc_at procs.now proc) DuplicateName proc 0) }
+    ensures { result_err result ≡ first_some (length procs.now) (λ proc. unless (is_new_proc_at procs.now proc) DuplicateName proc 0) }
 {
     for proc in 0..procs.len() {
         let is_new = is_new_proc_at(procs, proc);
-        let fault = unless(is_new, ProgWrong::DuplicateName, proc as u32, 0);
-        if fault.is_some() {
-            return fault;
-        }
+        ensure(is_new, ProgWrong::DuplicateName, proc as u32, 0)?;
     }
-    None
+    Ok(())
 }
 
-/// The first fault inside a procedure.
-fn procs_fault(procs: &[Proc]) -> Option<ProgFault>
+fn check_procs(procs: &[Proc]) -> Result<(), ProgFault>
     requires { length procs.now < 2 ^ 32 }
-    ensures { result ≡ first_some (length procs.now) (λ proc. option_and_then (proc_fault (length procs.now) proc) (slice_get procs.now proc)) }
+    ensures { result_err result ≡ first_some (length procs.now) (λ proc. option_and_then (proc_fault (length procs.now) proc) (slice_get procs.now proc)) }
 {
     for (number, proc) in procs.iter().enumerate() {
-        let fault = proc_fault(procs.len(), number as u32, proc);
-        if fault.is_some() {
-            return fault;
-        }
+        check_proc(procs.len(), number as u32, proc)?;
     }
-    None
+    Ok(())
 }
 
-/// The first fault of the procedures of a program.
+/// The checks of the procedures of a program, in their order.
 #[tactic(auto, unfolding(crate::specs::Checks::program_fault))]
-pub(crate) fn program_fault(procs: &[Proc]) -> Option<ProgFault>
-    ensures { result ≡ program_fault procs.now }
+pub(crate) fn check_program(procs: &[Proc]) -> Result<(), ProgFault>
+    ensures { result_err result ≡ program_fault procs.now }
 {
-    let bound = ProgWrong::Limit(Limited::Procs);
-    let fault = unless(procs.len() <= MOST_PROCS, bound, 0, 0);
-    if fault.is_some() {
-        return fault;
-    }
-    let fault = names_fault(procs);
-    if fault.is_some() {
-        return fault;
-    }
-    let fault = procs_fault(procs);
-    if fault.is_some() {
-        return fault;
-    }
-    unless(has_proc(procs, b"main"), ProgWrong::NoMain, 0, 0)
+    let too_many = ProgWrong::Limit(Limited::Procs);
+    ensure(procs.len() <= MOST_PROCS, too_many, 0, 0)?;
+    check_names(procs)?;
+    check_procs(procs)?;
+    ensure(has_proc(procs, b"main"), ProgWrong::NoMain, 0, 0)
 }

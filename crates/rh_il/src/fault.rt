@@ -16,11 +16,11 @@ pub enum Limited {
 pub enum ProgWrong {
     /// An earlier procedure, or an earlier variable of the procedure, has the name.
     DuplicateName,
-    /// A variable or a procedure of this number isn't there.
+    /// There is no variable or no procedure of a number.
     BadNumber,
-    /// A statement of this number isn't there.
+    /// There is no statement of a number.
     BadTarget,
-    /// A body is empty, or an edge leads behind its last statement.
+    /// Control can run off the end of a body.
     FallsOff,
     /// No procedure is called `main`.
     NoMain,
@@ -28,7 +28,7 @@ pub enum ProgWrong {
     Limit(Limited),
 }
 
-/// Why procedures are no program.
+/// Why procedures are not a program.
 #[derive(Clone, Copy, Debug, PartialEq, Eq)]
 pub enum ProgFault {
     /// The first check that fails: in which procedure, and at which variable or statement.

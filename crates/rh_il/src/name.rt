@@ -8,8 +8,8 @@ use std::marker::Model;
 /// The most bytes that a name has.
 pub const LONGEST_NAME: usize = 32;
 
-/// A letter of ASCII, and letters, digits and `_` behind it, at most 32 bytes in all. It needs no
-/// memory of its own.
+/// A letter of ASCII, then letters, digits and `_`, at most 32 bytes in all. It takes no memory of
+/// its own.
 #[derive(Clone, Copy)]
 pub struct Name {
     bytes: [u8; 32],

@@ -2,7 +2,7 @@
 
 ghost use Rattle.std.specs.Prelude.{◌≡◌, IfOk, option_copied, slice_get};
 
-use crate::check::{place_of, program_fault};
+use crate::check::{check_program, place_of};
 use crate::fault::ProgFault;
 use crate::flow::{edges_into, target_in};
 use crate::program::{Edge, Proc};
@@ -35,20 +35,18 @@ impl Program {
     ghost use Rattle.rh_il.specs.Flow.{edge_target, edges_into};
     ghost use Rattle.rh_il.specs.Checks.{has_proper_names, program_fault, main_of, IsProgram, ProcPassed};
 
-    /// The program of procedures whose names begin with a small letter and are none of the words of
-    /// the language; or the first check that they don't pass.
+    /// The program of these procedures, or the first check that they fail. `are_proper` tests their
+    /// names. It takes no memory.
     pub fn new(procs: Vec<Proc>) -> Result<Program, ProgFault>
         requires { list_all has_proper_names procs.items ≡ true }
         ensures program { IfOk result (λ program. program ≡ procs.items) }
         ensures passes { IfOk result (λ program. program_fault procs.items ≡ None) }
         ensures fault { IfErr result (λ fault. program_fault procs.items ≡ Some fault) }
     {
-        match program_fault(procs.as_slice()) {
-            Some(fault) => Err(fault),
-            None => Ok(Program {
-                procs: Items::from(procs),
-            }),
-        }
+        check_program(procs.as_slice())?;
+        Ok(Program {
+            procs: Items::from(procs),
+        })
     }
 
     /// How many procedures there are.

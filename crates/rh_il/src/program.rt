@@ -94,7 +94,7 @@ pub enum Node {
 /// By which of its ways out an edge leaves its node.
 #[derive(Clone, Copy, Debug, PartialEq, Eq)]
 pub enum Slot {
-    /// The only way out of a node that is no branch.
+    /// The only way out of a node that does not branch.
     Out,
     /// Where the condition of an `if` is not 0.
     Then,

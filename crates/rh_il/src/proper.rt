@@ -1,26 +1,13 @@
 //! Which names a program may have.
 
-ghost use Rattle.std.specs.Prelude.{◌≡◌, codes};
-ghost use Rattle.std.specs.List.{list_any, list_all};
-ghost use Rattle.std.specs.Str.{bytes_eq};
+ghost use Rattle.std.specs.Prelude.{◌≡◌};
+ghost use Rattle.std.specs.List.{list_all};
 ghost use Rattle.rh_il.specs.Name.{is_lower_name};
-ghost use Rattle.rh_il.specs.Checks.{keywords, is_proper, has_proper_names};
+ghost use Rattle.rh_il.specs.Checks.{is_proper, has_proper_names};
 
+use crate::keyword::keyword_of;
 use crate::name::Name;
 use crate::program::Proc;
-
-/// Whether the bytes are one of the words of programs that are no names.
-pub fn is_keyword(word: &[u8]) -> bool
-    ensures { result ≡ list_any (bytes_eq word.now) keywords }
-{
-    word == b"skip".as_slice()
-        || word == b"goto".as_slice()
-        || word == b"if".as_slice()
-        || word == b"else".as_slice()
-        || word == b"return".as_slice()
-        || word == b"new".as_slice()
-        || word == b"var".as_slice()
-}
 
 fn is_lower_name(name: &Name) -> bool
     ensures { result ≡ is_lower_name name.now }
@@ -31,11 +18,12 @@ fn is_lower_name(name: &Name) -> bool
     }
 }
 
-/// Whether a name begins with a small letter and is none of the words of programs.
+/// Whether a procedure or a variable may have the name: it begins with a small letter and is no
+/// reserved word.
 pub fn is_proper(name: &Name) -> bool
     ensures { result ≡ is_proper name.now }
 {
-    is_lower_name(name) && !is_keyword(name.bytes())
+    is_lower_name(name) && keyword_of(name.bytes()).is_none()
 }
 
 fn names_are_proper(names: &[Name]) -> bool
@@ -50,7 +38,7 @@ fn proc_is_proper(proc: &Proc) -> bool
     is_proper(&proc.name) && names_are_proper(proc.vars.as_slice())
 }
 
-/// Whether procedures have only such names.
+/// Whether all names in procedures are such.
 pub fn are_proper(procs: &[Proc]) -> bool
     ensures { result ≡ list_all has_proper_names procs.now }
 {

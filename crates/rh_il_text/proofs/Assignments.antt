@@ -8,7 +8,7 @@ use Rattle.rh_grammar.specs.declared.grammar.Symbol.TheVariants.{Token, Rule}
 use Rattle.rh_grammar.proofs.Inversion.{inverted}
 use Rattle.rh_il.specs.declared.value.Op.{Op}
 use Rattle.rh_il.specs.declared.value.Op.TheVariants.{Add, Sub, Mul, Less as LessOp, Equal as EqualOp}
-use Rattle.rh_il_text.specs.declared.word.Keyword.TheVariants.{New as NewWord}
+use Rattle.rh_il.specs.declared.keyword.Keyword.TheVariants.{New as NewWord}
 use Rattle.rh_il_text.specs.declared.word.Word.{Word}
 use Rattle.rh_il_text.specs.declared.word.Word.TheVariants.{Sign as SignWord, Keyword as KeywordWord, Name}
 use Rattle.rh_il_text.specs.declared.source.Operand.{Operand}
@@ -22,7 +22,7 @@ use Rattle.rh_il_text.specs.Source.{op_sign, operand_words, line_words}
 use Rattle.rh_il_text.specs.Parts.{Derived}
 use Rattle.rh_il_text.proofs.Fronts.{Front, sign_front, keyword_front, name_front, number_front, number_part, operand_front}
 
--- the rest of a statement was found behind what stood before
+-- the rest of a statement was found after what stood before
 pub record Built (before : List Word) (α : List Symbol) (words : List Word) (found : Option (Line × List Word)) : Type 0 where
   pub line : Line
   pub read : List Word
@@ -126,7 +126,7 @@ call_front to called α words d =
       derived = close.derived;
     }
 
--- what is read behind one more word
+-- what is read after one more word
 pub along : (before : List Word) (word : Word) (α : List Symbol) (words : List Word) (found : Option (Line × List Word)) → Built (before ++ word ∷ []) α words found → Built before α (word ∷ words) found
 along before word α words found b = record {
   line = b.line;
@@ -264,7 +264,7 @@ value_front to α words d =
     (⊎_elim (value_named to α words) (value_computed to α words))))
     (inverted productions value (Token semicolon ∷ α) (classes_of words) d)
 
--- an assignment behind its variable
+-- an assignment after its variable
 pub assigned_front : (to : List ℕ) (α : List Symbol) (words : List Word) → Derived (Token becomes ∷ Rule value ∷ Token semicolon ∷ α) words → Built (Name to ∷ []) (Token semicolon ∷ α) words (assigned_at to words)
 unfolding assigned_at
 assigned_front to α words d =

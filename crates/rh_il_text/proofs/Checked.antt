@@ -1,10 +1,12 @@
 -- What is known of each procedure of a program.
 use Rattle.std.proofs.Common.{◌≡◌, ℕ, zero, suc, ◌<◌, ◌≤◌, Bool, true, List, [], ◌∷◌, length, Option, Some, None, refl, sym, ap, ◌∙◌}
+use Rattle.std.proofs.lemmas.Option.{same_Some}
 use Rattle.std.proofs.lemmas.Bool.{leb-true, and_parts}
 use Rattle.std.specs.Prelude.{slice_get, nat_le, codes}
 use Rattle.std.specs.List.{AllByRecursion, list_all, list_any}
 use Rattle.std.specs.Option.{option_or, option_and_then}
 use Rattle.rh_list.specs.Each.{Each}
+use Rattle.rh_list.proofs.AtPlace.{passes_at}
 use Rattle.rh_il.specs.declared.program.Proc.{Proc}
 use Rattle.rh_il.specs.declared.program.Stmt.{Stmt}
 use Rattle.rh_il.specs.declared.fault.Limited.TheVariants.{Procs}
@@ -16,12 +18,6 @@ use Rattle.rh_il.specs.Value.{IsNumber}
 use Rattle.rh_il.proofs.Passed.{none_at, none_parts, passed, passes, proc_passed}
 use Rattle.rh_il.proofs.ProcChecks.{checks_passed, new_at, stmt_passed}
 use Rattle.rh_il_text.proofs.Fits.{IsProper}
-use Rattle.rh_il_text.proofs.Parts.{some_is}
-
-pub all_at : {X : Type 0} (test : X → Bool) (xs : List X) (i : ℕ) (x : X) → list_all test xs ≡ true → slice_get xs i ≡ Some x → test x ≡ true
-all_at test [] i x all read = absurd cc
-all_at test (y ∷ ys) zero x all read = sym (ap test (some_is y x read)) ∙ (and_parts (test y) (list_all test ys) all).0
-all_at test (y ∷ ys) (suc i) x all read = all_at test ys i x (and_parts (test y) (list_all test ys) all).1 read
 
 -- what each item has at its place
 pub each_all : {X : Type 0} (P : X → Type 0) (xs : List X) → Each P xs → AllByRecursion P xs
@@ -97,4 +93,4 @@ module _ (procs : List Proc) where
   each_checked named passes fits =
       each_all (ProcChecked (length procs)) procs
       (λ i proc read.
-      proc_checked (length procs) i proc (all_at has_proper_names procs i proc named read) (proc_passed procs i proc (passed procs passes) read) (fits i proc read))
+      proc_checked (length procs) i proc (passes_at has_proper_names procs i proc named read) (proc_passed procs i proc (passed procs passes) read) (fits i proc read))

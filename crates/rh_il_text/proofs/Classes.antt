@@ -1,11 +1,12 @@
 -- A word is told by its class, but for the bytes of a name and the value of a number.
 use Rattle.std.proofs.Common.{◌≡◌, ℕ, ◌-◌, ◌<◌, ◌≤◌, ◌^◌, cond, Bool, true, false, List, [], ◌∷◌, Option, Some, refl, sym, ap, ◌∙◌, arith}
+use Rattle.std.proofs.lemmas.Option.{same_Some}
 use Rattle.std.specs.Prelude.{slice_get, nat_lt}
 use Rattle.rh_text.specs.declared.sign.Sign.{Sign}
 use Rattle.rh_text.specs.Words.{sign_number}
 use Rattle.rh_text.proofs.SignNumbers.{sign_number-inj, sign_number-lt}
-use Rattle.rh_il_text.specs.declared.word.Keyword.{Keyword}
-use Rattle.rh_il_text.specs.declared.word.Keyword.TheVariants.{Skip, Goto, If, Else, Return, New, Var}
+use Rattle.rh_il.specs.declared.keyword.Keyword.{Keyword}
+use Rattle.rh_il.specs.declared.keyword.Keyword.TheVariants.{Skip, Goto, If, Else, Return, New, Var}
 use Rattle.rh_il_text.specs.declared.word.Word.{Word}
 use Rattle.rh_il_text.specs.declared.word.Word.TheVariants.{Sign as SignWord, Keyword as KeywordWord, Name, Number, Other}
 use Rattle.rh_il_text.specs.Words.{keyword_number, number_class, class_of}
@@ -17,11 +18,8 @@ numbered : (k : Keyword) → slice_get keywords (keyword_number k - 17) ≡ Some
 numbered Skip = refl
 numbered _ = refl
 
-some_is : (a b : Keyword) → ◌≡◌ {A = Option Keyword} (Some a) (Some b) → a ≡ b
-some_is a b e = cc
-
 keyword_number-inj : (a b : Keyword) → keyword_number a ≡ keyword_number b → a ≡ b
-keyword_number-inj a b e = some_is a b (sym (numbered a) ∙ ap (λ n. slice_get keywords (n - 17)) e ∙ numbered b)
+keyword_number-inj a b e = same_Some a b (sym (numbered a) ∙ ap (λ n. slice_get keywords (n - 17)) e ∙ numbered b)
 
 keyword_within : (k : Keyword) → (17 ≤ keyword_number k) × (keyword_number k < 24)
 keyword_within Skip = (omega arith, omega arith)

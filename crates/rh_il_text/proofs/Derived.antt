@@ -10,7 +10,7 @@ use Rattle.rh_grammar.specs.declared.grammar.Symbol.TheVariants.{Token, Rule}
 use Rattle.rh_grammar.specs.Derivation.{Derivable, Leads, done, token, expand}
 use Rattle.rh_il.specs.declared.value.Op.{Op}
 use Rattle.rh_il.specs.declared.value.Op.TheVariants.{Add, Sub, Mul, Less as LessOp, Equal as EqualOp}
-use Rattle.rh_il_text.specs.declared.word.Keyword.TheVariants.{Goto as GotoWord, Else as ElseWord}
+use Rattle.rh_il.specs.declared.keyword.Keyword.TheVariants.{Goto as GotoWord, Else as ElseWord}
 use Rattle.rh_il_text.specs.declared.word.Word.{Word}
 use Rattle.rh_il_text.specs.declared.word.Word.TheVariants.{Sign as SignWord, Keyword as KeywordWord, Number}
 use Rattle.rh_il_text.specs.declared.source.Operand.{Operand}
@@ -55,7 +55,7 @@ positive_derived n fits leads =
     ⊎_elim (λ low. by 27 refl (sized n index (index_class n low) leads)) (λ high. by 28 refl (sized n size (size_class n high fits) leads))
     (cases_lt n (2 ^ 32))
 
--- a number behind `-`
+-- a number after `-`
 magnitude_derived : (n : ℕ) {α : List Symbol} {tokens : List ℕ} → Leads productions α tokens → Leads productions (Rule magnitude ∷ α) (number_class n ∷ tokens)
 magnitude_derived n leads =
     ⊎_elim (λ low. by 30 refl (sized n index (index_class n low) leads))
@@ -99,7 +99,7 @@ computed_derived op (Num true n) right α words first second d =
 assigned_derived : {α : List Symbol} {tokens : List ℕ} → Leads productions (Rule value ∷ α) tokens → Leads productions (Rule statement ∷ α) (name ∷ becomes ∷ tokens)
 assigned_derived leads = by 14 refl (word (word leads))
 
--- the operand of a call, and the bracket behind it
+-- the operand of a call, and the bracket after it
 argument_derived : (x : Operand) (α : List Symbol) (words : List Word) → OperandFits x → Derived α words
     → Derived (Rule base ∷ Token close_paren ∷ α) ((operand_words x ++ SignWord CloseParen ∷ []) ++ words)
 argument_derived x α words fits d = rw (append_assoc (operand_words x) (SignWord CloseParen ∷ []) words) (operand_derived x _ _ fits (word d))
@@ -138,7 +138,7 @@ body_derived (line ∷ lines) α words fits d =
     rw (append_assoc (closed_words line) (flat_map closed_words lines) words, append_assoc (line_words line) (SignWord Semicolon ∷ []) (flat_map closed_words lines ++ words))
     (by 7 refl (line_derived line _ _ fits.0 (word (body_derived lines α words fits.1 d))))
 
--- names behind commas
+-- names after commas
 more_derived : (names : List (List ℕ)) (α : List Symbol) (words : List Word) → Derived α words → Derived (Rule more_locals ∷ α) (more_words names ++ words)
 more_derived [] α words d = by 6 refl d
 more_derived (n ∷ ns) α words d = by 5 refl (word (word (more_derived ns α words d)))

@@ -11,7 +11,7 @@ use Rattle.rh_il_text.specs.declared.source.Source.{Source}
 abbrev pub IsProper : List ℕ → Type 0
 IsProper name = is_proper name ≡ true
 
--- a number has 63 bits, but behind `-` it may be 2 ^ 63
+-- a number has 63 bits, but after `-` it may be 2 ^ 63
 abbrev pub OperandFits : Operand → Type 0
 OperandFits (Var name) = IsProper name
 OperandFits (Num false n) = n < 2 ^ 63

@@ -8,7 +8,7 @@ use Rattle.rh_grammar.specs.declared.grammar.Symbol.{Symbol}
 use Rattle.rh_grammar.specs.declared.grammar.Symbol.TheVariants.{Token, Rule}
 use Rattle.rh_grammar.specs.Derivation.{Leads}
 use Rattle.rh_grammar.proofs.Inversion.{inverted, follows}
-use Rattle.rh_il_text.specs.declared.word.Keyword.{Keyword}
+use Rattle.rh_il.specs.declared.keyword.Keyword.{Keyword}
 use Rattle.rh_il_text.specs.declared.word.Word.{Word}
 use Rattle.rh_il_text.specs.declared.word.Word.TheVariants.{Sign as SignWord, Keyword as KeywordWord, Name, Number}
 use Rattle.rh_il_text.specs.declared.source.Operand.{Operand}
@@ -49,7 +49,7 @@ head class α words d =
     let f = follows productions class α (classes_of words) d in
     head_of class α words f.rest f.tokens_are f.leads
 
--- the part at the front was found, and what is behind it is derived from the other symbols
+-- the part at the front was found, and what is after it is derived from the other symbols
 pub record Front {X : Type 0} (spell : X → List Word) (α : List Symbol) (words : List Word) (found : Option (X × List Word)) : Type 0 where
   pub part : X
   pub rest : List Word
@@ -126,7 +126,7 @@ index_front α words d =
       derived = h.derived;
     }
 
--- a number behind `-`
+-- a number after `-`
 negative_front : (α : List Symbol) (words : List Word) → Front number_words α words (number_at words) → Front (λ (x : Operand). operand_words x) α (SignWord Minus ∷ words) (negative_at words)
 unfolding negative_at
 negative_front α words f = record {

@@ -6,8 +6,6 @@ pub mod Statements
 pub mod Parts
 pub mod Sources
 pub mod Proper
-pub mod AsciiNames
-pub mod IndexSteps
 pub mod OneReadingLines
 pub mod OneReadingFiles
 pub mod OneReading

@@ -11,7 +11,7 @@ use Rattle.rh_il_text.proofs.OneReadingLines.{bodies_unique}
 
 -- ---- the names of variables, up to the brace
 
--- two lists of names, with the same words behind them
+-- two lists of names, with the same words after them
 record SameNames (a b : List (List ℕ)) (r s : List Word) : Type 0 where
   names : a ≡ b
   rests : r ≡ s
@@ -56,7 +56,7 @@ source_parts p rest =
     ap (λ (words : List Word). Name p.name ∷ SignWord OpenParen ∷ words)
     (append_assoc (vars ++ block) (SignWord CloseBrace ∷ []) rest ∙ append_assoc vars block (SignWord CloseBrace ∷ rest))
 
--- two procedures, with the same words behind them
+-- two procedures, with the same words after them
 record SameSources (a b : Source) (r s : List Word) : Type 0 where
   source : a ≡ b
   rests : r ≡ s

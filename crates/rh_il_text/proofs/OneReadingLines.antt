@@ -1,11 +1,11 @@
--- The words of a statement tell the statement, whatever comes behind them.
+-- The words of a statement tell the statement, whatever comes after them.
 use Rattle.std.proofs.Common.{◌≡◌, ℕ, Bool, true, false, cond, List, [], ◌∷◌, ◌++◌, append_assoc, refl, sym, ap, ◌∙◌}
 use Rattle.std.specs.List.{flat_map}
 use Rattle.rh_text.specs.declared.sign.Sign.{Sign}
 use Rattle.rh_text.specs.declared.sign.Sign.TheVariants.{Semicolon, OpenParen, CloseBrace, Plus, Minus, Star, Less, Ampersand}
 use Rattle.rh_il.specs.declared.value.Op.{Op}
 use Rattle.rh_il.specs.declared.value.Op.TheVariants.{Add, Sub, Mul, Less as LessOp, Equal as EqualOp}
-use Rattle.rh_il_text.specs.declared.word.Keyword.TheVariants.{Skip as SkipWord, Goto as GotoWord, If as IfWord, Return as ReturnWord}
+use Rattle.rh_il.specs.declared.keyword.Keyword.TheVariants.{Skip as SkipWord, Goto as GotoWord, If as IfWord, Return as ReturnWord}
 use Rattle.rh_il_text.specs.declared.word.Word.{Word}
 use Rattle.rh_il_text.specs.declared.word.Word.TheVariants.{Sign as SignWord, Keyword as KeywordWord, Name, Number}
 use Rattle.rh_il_text.specs.declared.source.Operand.{Operand}
@@ -22,7 +22,7 @@ LineAndRest = Line × List Word
 abbrev none : LineAndRest
 none = (Skip, [])
 
--- the words behind the first
+-- the words after the first
 abbrev behind : List Word → List Word
 behind [] = []
 behind (word ∷ words) = words
@@ -56,7 +56,7 @@ abbrev is_bracket : Sign → Bool
 is_bracket OpenParen = true
 is_bracket sign = false
 
--- what is assigned, behind its first operand and a sign
+-- what is assigned, after its first operand and a sign
 abbrev computed : List ℕ → Operand → Sign → List Word → LineAndRest
 computed to left sign words =
     cond (is_end sign) (Copy to left, words) (with_operand (λ right rest. (Compute to (op_of sign) left right, behind rest)) words)
@@ -170,7 +170,7 @@ line_goes_on (Goto to) rest = refl
 line_goes_on (If tested taken others) rest = refl
 line_goes_on (Return value) rest = refl
 
--- two lists of statements, with the same words behind them
+-- two lists of statements, with the same words after them
 pub record SameBodies (a b : List Line) (r s : List Word) : Type 0 where
   pub lines : a ≡ b
   pub rests : r ≡ s

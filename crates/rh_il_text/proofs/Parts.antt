@@ -1,5 +1,6 @@
 -- Names and statements, read one after another.
 use Rattle.std.proofs.Common.{◌≡◌, ℕ, List, [], ◌∷◌, ◌++◌, Option, Some, None, refl, sym, ap, ◌∙◌, subst, ◌⊎◌, inl, inr, ⊎_elim, append_assoc, append-nil}
+use Rattle.std.proofs.lemmas.Option.{same_Some}
 use Rattle.std.proofs.lemmas.List.{flat_map_more}
 use Rattle.std.specs.List.{flat_map}
 use Rattle.rh_text.specs.declared.sign.Sign.TheVariants.{Semicolon, Comma, OpenBrace, CloseBrace}
@@ -16,9 +17,6 @@ use Rattle.rh_il_text.specs.Source.{closed_words, line_words}
 use Rattle.rh_il_text.specs.Parts.{Derived, Listed, BodyRead, MoreRead}
 use Rattle.rh_il_text.proofs.Fronts.{Front, sign_front, name_front}
 use Rattle.rh_il_text.proofs.Statements.{statement_front}
-
-pub some_is : {X : Type 0} (x y : X) → ◌≡◌ {A = Option X} (Some x) (Some y) → x ≡ y
-some_is x y e = cc
 
 pub some_none : {X : Type 0} (x : X) (o : Option X) → o ≡ Some x → o ≡ None → ⊥
 some_none x o some none = let gone : Some x ≡ None = sym some ∙ none in cc
@@ -37,7 +35,7 @@ module _ {X : Type 0} (spell : X → List Word) (at : List Word → Option (X ×
 
   one_more : (α : List Symbol) (old : List X) (words : List Word) (new : List X) (rest : List Word) (x : X) (behind : List Word) → Listed (flat_map spell) (from α) old words new rest → at rest ≡ Some (x, behind) → Front spell (from α) rest (at rest) → Listed (flat_map spell) (from α) old words (new ++ x ∷ []) behind
   one_more α old words new rest x behind l is f =
-      let same : (f.part, f.rest) ≡ (x, behind) = some_is (f.part, f.rest) (x, behind) (sym f.found_is ∙ is) in
+      let same : (f.part, f.rest) ≡ (x, behind) = same_Some (f.part, f.rest) (x, behind) (sym f.found_is ∙ is) in
       let part_is : f.part ≡ x = ap (λ r. r.0) same in
       let rest_is : f.rest ≡ behind = ap (λ r. r.1) same in
       let found : rest ≡ spell x ++ behind = subst (λ r. rest ≡ spell r.0 ++ r.1) same f.words_are in

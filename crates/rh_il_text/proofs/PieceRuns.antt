@@ -1,19 +1,19 @@
 -- The pieces of procedures stand as pieces in their text: each goes on as long as it can.
 use Rattle.std.proofs.Common.{◌≡◌, ℕ, ◌≤◌, ◌^◌, Bool, true, false, ◌&&◌, ◌||◌, List, [], ◌∷◌, ◌++◌, length, refl, arith}
 use Rattle.std.proofs.lemmas.Bool.{and_parts, and_from, or_left, false≢true, leb-true}
-use Rattle.std.specs.Prelude.{nat_le, not, ◌==◌}
-use Rattle.std.specs.List.{AllByRecursion, flat_map, list_all, list_any}
+use Rattle.std.specs.Prelude.{nat_le, ◌==◌}
+use Rattle.std.specs.List.{AllByRecursion, flat_map, list_all}
 use Rattle.std.specs.Char.{is_ascii_alphabetic, is_ascii_digit, is_ascii_lowercase}
 use Rattle.std.specs.Int.{is_in_range}
-use Rattle.std.specs.Str.{bytes_eq}
+use Rattle.std.specs.Option.{is_none}
 use Rattle.rh_text.specs.declared.sign.Sign.{Sign}
 use Rattle.rh_text.specs.declared.sign.Sign.TheVariants.{Becomes, Semicolon, Comma, OpenParen, CloseParen, OpenBrace, CloseBrace, Minus, Star, Ampersand}
 use Rattle.rh_text.specs.Pieces.{Piece, Word, Mark, spelled, is_word_byte, IsWord, Stops, IsPiece, ArePieces}
 use Rattle.rh_text.proofs.Printing.{space_piece, sign_piece, word_piece, number_piece}
-use Rattle.rh_il.specs.Checks.{keywords}
+use Rattle.rh_il.specs.Keywords.{keyword_of}
 use Rattle.rh_il.specs.Name.{is_lower_name, is_name, is_word_byte as is_name_byte}
-use Rattle.rh_il_text.specs.declared.word.Keyword.{Keyword}
-use Rattle.rh_il_text.specs.declared.word.Keyword.TheVariants.{Skip as SkipWord, Goto as GotoWord, If as IfWord, Else as ElseWord, Return as ReturnWord, New as NewWord, Var as VarWord}
+use Rattle.rh_il.specs.declared.keyword.Keyword.{Keyword}
+use Rattle.rh_il.specs.declared.keyword.Keyword.TheVariants.{Skip as SkipWord, Goto as GotoWord, If as IfWord, Else as ElseWord, Return as ReturnWord, New as NewWord, Var as VarWord}
 use Rattle.rh_il_text.specs.declared.source.Operand.{Operand}
 use Rattle.rh_il_text.specs.declared.source.Operand.TheVariants.{Var, Num}
 use Rattle.rh_il_text.specs.declared.source.Line.{Line}
@@ -56,7 +56,7 @@ proper_word (b ∷ bs) lower =
 
 name : (bytes : List ℕ) {after : List ℕ} → IsProper bytes → Stops is_word_byte after → IsPiece (Word bytes) after
 name bytes {after} proper stops =
-    let word = proper_word bytes (and_parts (is_lower_name bytes) (not (list_any (bytes_eq bytes) keywords)) proper).0 in
+    let word = proper_word bytes (and_parts (is_lower_name bytes) (is_none (keyword_of bytes)) proper).0 in
     word_piece bytes after word.0 word.1 stops
 
 known : (k : Keyword) {after : List ℕ} → Stops is_word_byte after → IsPiece (keyword k) after
@@ -80,7 +80,7 @@ end {after} = space_piece 10 after refl
 mark : (sign : Sign) {after : List ℕ} → IsPiece (Mark sign) after
 mark sign {after} = sign_piece sign after
 
--- each part stands there, if what is behind it does
+-- each part stands there, if what is after it does
 module _ (rest : List ℕ) where
   operand_are : (x : Operand) (ps : List Piece) → OperandFits x → Ends ps rest → ArePieces ps rest → ArePieces (operand_onto x ps) rest
   operand_are (Var bytes) ps fits ends are = (name bytes fits ends, are)

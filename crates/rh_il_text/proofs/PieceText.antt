@@ -12,7 +12,8 @@ use Rattle.rh_il.specs.declared.program.Stmt.{Stmt}
 use Rattle.rh_il.specs.declared.program.Stmt.TheVariants.{Skip, Copy, Address, Load, Compute, Write, New, Call, Goto, If, Return}
 use Rattle.rh_il.specs.declared.program.Proc.{Proc}
 use Rattle.rh_il_text.specs.Source.{op_sign}
-use Rattle.rh_il_text.specs.Text.{name_at, op_text, base_text, to_text, stmt_text, line_text, locals_text, vars_text, proc_text, program_text}
+use Rattle.rh_print.specs.Operators.{op_text}
+use Rattle.rh_il_text.specs.Text.{name_at, base_text, to_text, stmt_text, line_text, locals_text, vars_text, proc_text, program_text}
 use Rattle.rh_il_text.proofs.Naming.{operand_of, line_of, source_of, sources_of}
 use Rattle.rh_il_text.proofs.Pieced.{space, line_end, operand_onto, to_onto, line_onto, body_onto, more_onto, locals_onto, vars_onto, source_onto, sources_onto}
 

@@ -1,9 +1,9 @@
 -- The tokens of pieces say the words of the procedures that they spell.
-use Rattle.std.proofs.Common.{◌≡◌, ℕ, ◌≤◌, ◌<◌, ◌^◌, ◌+◌, true, false, not, cond, List, [], ◌∷◌, ◌++◌, map, Option, Some, None, refl, sym, ap, ◌∙◌, arith, append_assoc, codes, length}
-use Rattle.std.proofs.lemmas.Bool.{and_parts, or_parts, not-true, false≢true}
+use Rattle.std.proofs.Common.{◌≡◌, ℕ, ◌≤◌, ◌<◌, ◌^◌, ◌+◌, true, false, cond, List, [], ◌∷◌, ◌++◌, map, Option, Some, None, refl, sym, ap, ◌∙◌, arith, append_assoc, length}
+use Rattle.std.proofs.lemmas.Bool.{and_parts, false≢true}
 use Rattle.std.specs.Prelude.{slice_index}
-use Rattle.std.specs.List.{AllByRecursion, flat_map, list_any}
-use Rattle.std.specs.Str.{bytes_eq}
+use Rattle.std.specs.List.{AllByRecursion, flat_map}
+use Rattle.std.specs.Option.{is_none}
 use Rattle.std.specs.Char.{is_ascii_lowercase}
 use Rattle.rh_text.specs.declared.sign.Sign.TheVariants.{Becomes, Semicolon, Comma, OpenParen, CloseParen, OpenBrace, CloseBrace, Minus, Star, Ampersand}
 use Rattle.rh_text.specs.declared.token.Token.{Token}
@@ -13,10 +13,9 @@ use Rattle.rh_text.specs.Pieces.{Piece, Word as WordPiece, Mark, spelled, kind_o
 use Rattle.rh_text.specs.Words.{spelling}
 use Rattle.rh_text.proofs.Printing.{told, told_of, tokens_tell, decimal_value-decimal}
 use Rattle.rh_il.specs.declared.value.Op.{Op}
-use Rattle.rh_il.specs.Checks.{keywords}
 use Rattle.rh_il.specs.Name.{is_lower_name, is_name}
-use Rattle.rh_il_text.specs.declared.word.Keyword.{Keyword}
-use Rattle.rh_il_text.specs.declared.word.Keyword.TheVariants.{Goto as GotoWord, If as IfWord, Else as ElseWord, Return as ReturnWord, New as NewWord, Var as VarWord}
+use Rattle.rh_il.specs.declared.keyword.Keyword.{Keyword}
+use Rattle.rh_il.specs.declared.keyword.Keyword.TheVariants.{Goto as GotoWord, If as IfWord, Else as ElseWord, Return as ReturnWord, New as NewWord, Var as VarWord}
 use Rattle.rh_il_text.specs.declared.word.Word.{Word}
 use Rattle.rh_il_text.specs.declared.word.Word.TheVariants.{Sign as SignWord, Keyword as KeywordWord, Name, Number, Other}
 use Rattle.rh_il_text.specs.declared.source.Operand.{Operand}
@@ -24,7 +23,8 @@ use Rattle.rh_il_text.specs.declared.source.Operand.TheVariants.{Var, Num}
 use Rattle.rh_il_text.specs.declared.source.Line.{Line}
 use Rattle.rh_il_text.specs.declared.source.Line.TheVariants.{Skip, Copy, Address, Load, Compute, Write, New, Call, Goto, If, Return}
 use Rattle.rh_il_text.specs.declared.source.Source.{Source}
-use Rattle.rh_il_text.specs.Words.{keyword_of, lower_word, word_as, words_of}
+use Rattle.rh_il.specs.Keywords.{keyword_of}
+use Rattle.rh_il_text.specs.Words.{lower_word, word_as, words_of}
 use Rattle.rh_il_text.specs.Source.{op_sign, operand_words, line_words, closed_words, more_words, locals_words, source_words, file_words}
 use Rattle.rh_il_text.proofs.Proper.{vars_words}
 use Rattle.rh_il_text.proofs.Sources.{regroup}
@@ -76,23 +76,16 @@ first_small : (name : List ℕ) → is_lower_name name ≡ true → is_ascii_low
 first_small [] lower = absurd (false≢true lower)
 first_small (b ∷ bs) lower = (and_parts (is_ascii_lowercase b) (is_name (b ∷ bs)) lower).0
 
-no_keyword : (name : List ℕ) → list_any (bytes_eq name) keywords ≡ false → keyword_of name ≡ None
-no_keyword name none =
-    let a = or_parts (bytes_eq name (codes "skip")) _ none in
-    let b = or_parts (bytes_eq name (codes "goto")) _ a.1 in
-    let c = or_parts (bytes_eq name (codes "if")) _ b.1 in
-    let d = or_parts (bytes_eq name (codes "else")) _ c.1 in
-    let e = or_parts (bytes_eq name (codes "return")) _ d.1 in
-    let f = or_parts (bytes_eq name (codes "new")) _ e.1 in
-    let g = or_parts (bytes_eq name (codes "var")) _ f.1 in
-    rw (a.0, b.0, c.0, d.0, e.0, f.0, g.0) refl
+not_reserved : (k : Option Keyword) → is_none k ≡ true → k ≡ None
+not_reserved None e = refl
+not_reserved (Some keyword) e = absurd cc
 
 name_said : (name : List ℕ) (ps : List Piece) → IsProper name → said (WordPiece name ∷ ps) ≡ Name name ∷ said ps
 name_said name ps proper =
-    let parts = and_parts (is_lower_name name) (not (list_any (bytes_eq name) keywords)) proper in
+    let parts = and_parts (is_lower_name name) (is_none (keyword_of name)) proper in
     let kind : name_kind name ≡ Lower = ap (λ b. cond b Lower Upper) (first_small name parts.0) in
     let word : lower_word (keyword_of name) name ≡ Name name =
-    ap (λ (k : Option Keyword). lower_word k name) (no_keyword name (not-true _ parts.1)) ∙ ap (λ b. cond b (Name name) Other) proper in
+    ap (λ (k : Option Keyword). lower_word k name) (not_reserved (keyword_of name) parts.1) ∙ ap (λ b. cond b (Name name) Other) proper in
     ap (λ (k : TokenKind). say k name 0 ∷ said ps) kind ∙ ap (λ (w : Word). w ∷ said ps) word
 
 number_said : (n : ℕ) (ps : List Piece) → n ≤ 2 ^ 63 → said (number n ∷ ps) ≡ Number n ∷ said ps

@@ -3,8 +3,8 @@ use Rattle.std.specs.Prelude.{ℕ, true, false, List, [], ◌∷◌, codes}
 use Rattle.std.specs.Fmt.{decimal}
 use Rattle.rh_text.specs.declared.sign.Sign.TheVariants.{Becomes, Semicolon, Comma, OpenParen, CloseParen, OpenBrace, CloseBrace, Minus, Star, Ampersand}
 use Rattle.rh_text.specs.Pieces.{Piece, Space, Word, Digits, Mark}
-use Rattle.rh_il_text.specs.declared.word.Keyword.{Keyword}
-use Rattle.rh_il_text.specs.declared.word.Keyword.TheVariants.{Skip as SkipWord, Goto as GotoWord, If as IfWord, Else as ElseWord, Return as ReturnWord, New as NewWord, Var as VarWord}
+use Rattle.rh_il.specs.declared.keyword.Keyword.{Keyword}
+use Rattle.rh_il.specs.declared.keyword.Keyword.TheVariants.{Skip as SkipWord, Goto as GotoWord, If as IfWord, Else as ElseWord, Return as ReturnWord, New as NewWord, Var as VarWord}
 use Rattle.rh_il_text.specs.declared.source.Operand.{Operand}
 use Rattle.rh_il_text.specs.declared.source.Operand.TheVariants.{Var, Num}
 use Rattle.rh_il_text.specs.declared.source.Line.{Line}
@@ -62,7 +62,7 @@ abbrev pub body_onto : List Line → List Piece → List Piece
 body_onto [] ps = ps
 body_onto (line ∷ lines) ps = space ∷ space ∷ line_onto line (Mark Semicolon ∷ line_end ∷ body_onto lines ps)
 
--- the locals behind the first one
+-- the locals after the first one
 abbrev pub more_onto : List (List ℕ) → List Piece → List Piece
 more_onto [] ps = ps
 more_onto (name ∷ names) ps = Mark Comma ∷ space ∷ Word name ∷ more_onto names ps

@@ -1,7 +1,7 @@
 -- A name that stands once in a list has its place there.
 use Rattle.std.proofs.Common.{◌≡◌, ℕ, zero, suc, ◌<◌, ◌≤◌, ◌^◌, Bool, true, false, not, ◌||◌, List, [], ◌∷◌, length, take, map, get_or, Option, Some, refl, sym, ap, ◌∙◌, subst, arith}
 use Rattle.std.proofs.lemmas.Bool.{or_parts, or_left, or_right, lt-ltb, not-true}
-use Rattle.std.proofs.lemmas.Option.{slice_get-get_or, slice_get_within}
+use Rattle.std.proofs.lemmas.Option.{slice_get-get_or, slice_get_within, same_Some}
 use Rattle.std.proofs.lemmas.Slice.Eq.{bytes_eq-Decides}
 use Rattle.std.specs.Prelude.{slice_get}
 use Rattle.std.specs.List.{list_any, position, prefix_len}
@@ -11,7 +11,6 @@ use Rattle.rh_il.specs.declared.program.Proc.{Proc}
 use Rattle.rh_il.specs.Checks.{is_called, is_new_at, is_new_proc_at}
 use Rattle.rh_il_text.specs.Text.{name_at, proc_name}
 use Rattle.rh_il_text.specs.Known.{is_known, place_of}
-use Rattle.rh_il_text.proofs.Parts.{some_is}
 
 bytes_same : (bytes : List ℕ) → bytes_eq bytes bytes ≡ true
 bytes_same bytes = (bytes_eq-Decides bytes bytes).1 refl
@@ -20,7 +19,7 @@ bytes_same bytes = (bytes_eq-Decides bytes bytes).1 refl
 first_place : {X : Type 0} (p : X → Bool) (xs : List X) (i : ℕ) (x : X) → slice_get xs i ≡ Some x → list_any p (take i xs) ≡ false → p x ≡ true → prefix_len (λ y. not (p y)) xs ≡ i
 first_place p [] i x read none here = absurd cc
 first_place p (y ∷ ys) zero x read none here =
-    let passes : p y ≡ true = ap p (some_is y x read) ∙ here in rw passes refl
+    let passes : p y ≡ true = ap p (same_Some y x read) ∙ here in rw passes refl
 first_place p (y ∷ ys) (suc i) x read none here =
     let parts = or_parts (p y) (list_any p (take i ys)) none in
     let rest = first_place p ys i x read parts.1 here in
@@ -32,7 +31,7 @@ placed p xs i x read none here =
 
 any_at : {X : Type 0} (p : X → Bool) (xs : List X) (i : ℕ) (x : X) → slice_get xs i ≡ Some x → p x ≡ true → list_any p xs ≡ true
 any_at p [] i x read here = absurd cc
-any_at p (y ∷ ys) zero x read here = or_left (p y) (list_any p ys) (ap p (some_is y x read) ∙ here)
+any_at p (y ∷ ys) zero x read here = or_left (p y) (list_any p ys) (ap p (same_Some y x read) ∙ here)
 any_at p (y ∷ ys) (suc i) x read here = or_right (p y) (list_any p ys) (any_at p ys i x read here)
 
 -- the number of a name
@@ -61,7 +60,7 @@ called procs = map (λ p. p.name) procs
 
 called_at : (procs : List Proc) (i : ℕ) (p : Proc) → slice_get procs i ≡ Some p → slice_get (called procs) i ≡ Some p.name
 called_at [] i p read = absurd cc
-called_at (q ∷ qs) zero p read = ap (λ (r : Proc). Some r.name) (some_is q p read)
+called_at (q ∷ qs) zero p read = ap (λ (r : Proc). Some r.name) (same_Some q p read)
 called_at (q ∷ qs) (suc i) p read = called_at qs i p read
 
 any_called : (name : List ℕ) (procs : List Proc) (i : ℕ) → list_any (bytes_eq name) (take i (called procs)) ≡ list_any (is_called name) (take i procs)

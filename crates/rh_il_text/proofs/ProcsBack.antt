@@ -5,6 +5,7 @@ use Rattle.std.proofs.lemmas.Bool.{and_parts, le-ltb, ltb-true}
 use Rattle.std.specs.Prelude.{slice_get}
 use Rattle.std.specs.Option.{option_map_or}
 use Rattle.std.specs.List.{AllByRecursion, list_all, flat_map, prefix_len}
+use Rattle.rh_list.proofs.AtPlace.{has_at, passes_at, read_at}
 use Rattle.rh_il.specs.declared.program.Stmt.{Stmt}
 use Rattle.rh_il.specs.declared.program.Proc.{Proc}
 use Rattle.rh_il.specs.Checks.{is_proper}
@@ -15,28 +16,18 @@ use Rattle.rh_il_text.specs.Program.{first_missing}
 use Rattle.rh_il_text.proofs.Fits.{IsProper, LineFits, SourceFits}
 use Rattle.rh_il_text.proofs.Naming.{line_of, source_of, sources_of}
 use Rattle.rh_il_text.proofs.Placed.{called, name_is, var_back, var_known, proc_back, proc_known}
-use Rattle.rh_il_text.proofs.Checked.{StmtChecked, ProcChecked, ProcsChecked, all_at, each_all}
+use Rattle.rh_il_text.proofs.Checked.{StmtChecked, ProcChecked, ProcsChecked, each_all}
 use Rattle.rh_il_text.proofs.Back.{Named, NoneMissing, none_missing_append, StmtBack, stmt_back}
 
-some_at : {X : Type 0} (xs : List X) (i : ℕ) → i < length xs → (x : X) × (slice_get xs i ≡ Some x)
-some_at [] i lt = absurd (omega arith)
-some_at (x ∷ xs) zero lt = (x, refl)
-some_at (x ∷ xs) (suc i) lt = some_at xs i (omega arith)
-
-at_place : {X : Type 0} (P : X → Type 0) (xs : List X) (i : ℕ) (x : X) → AllByRecursion P xs → slice_get xs i ≡ Some x → P x
-at_place P [] i x all read = absurd cc
-at_place P (y ∷ ys) zero x all read = let same : y ≡ x = cc in subst P same all.0
-at_place P (y ∷ ys) (suc i) x all read = at_place P ys i x all.1 read
-
 all_from : {X : Type 0} (test : X → Bool) (xs : List X) → list_all test xs ≡ true → AllByRecursion (λ x. test x ≡ true) xs
-all_from test xs all = each_all (λ x. test x ≡ true) xs (λ i x read. all_at test xs i x all read)
+all_from test xs all = each_all (λ x. test x ≡ true) xs (λ i x read. passes_at test xs i x all read)
 
 -- the procedures of a program
 module _ (procs : List Proc) (checked : ProcsChecked procs) (each : AllByRecursion (ProcChecked (length procs)) procs) where
   proc_proper : (i : ℕ) → i < length procs → IsProper (proc_name procs i)
   proc_proper i lt =
-      let p = some_at procs i lt in
-      subst IsProper (sym (ap (λ (o : Option Proc). option_map_or (λ q. q.name) o []) p.1)) (at_place (ProcChecked (length procs)) procs i p.0 each p.1).name
+      let p = read_at procs i lt in
+      subst IsProper (sym (ap (λ (o : Option Proc). option_map_or (λ q. q.name) o []) p.1)) (has_at (ProcChecked (length procs)) procs i p.0 each p.1).name
 
   -- the variables of one of them
   module _ (p : Proc) (one : ProcChecked (length procs) p) where
@@ -44,11 +35,11 @@ module _ (procs : List Proc) (checked : ProcsChecked procs) (each : AllByRecursi
     named = record {
       var_back = λ x lt. var_back p.vars x (ltb-true x (length p.vars) lt) one.few (one.new x (ltb-true x (length p.vars) lt));
       var_known = λ x lt. var_known p.vars x (ltb-true x (length p.vars) lt);
-      var_proper = λ x lt. all_at is_proper p.vars x _ one.proper (name_is p.vars x (ltb-true x (length p.vars) lt));
+      var_proper = λ x lt. passes_at is_proper p.vars x _ one.proper (name_is p.vars x (ltb-true x (length p.vars) lt));
       proc_back = λ i lt.
           let below = ltb-true i (length procs) lt in
-          let q = some_at procs i below in proc_back procs i q.0 q.1 checked.few (checked.new i below);
-      proc_known = λ i lt. let q = some_at procs i (ltb-true i (length procs) lt) in proc_known procs i q.0 q.1;
+          let q = read_at procs i below in proc_back procs i q.0 q.1 checked.few (checked.new i below);
+      proc_known = λ i lt. let q = read_at procs i (ltb-true i (length procs) lt) in proc_known procs i q.0 q.1;
       proc_proper = λ i lt. proc_proper i (ltb-true i (length procs) lt);
     }
 

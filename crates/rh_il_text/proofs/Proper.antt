@@ -9,11 +9,12 @@ use Rattle.rh_text.specs.declared.token.TokenKind.TheVariants.{Lower, Upper, Num
 use Rattle.rh_text.specs.declared.sign.Sign.TheVariants.{OpenParen, OpenBrace, CloseBrace}
 use Rattle.rh_text.specs.Words.{spelling}
 use Rattle.rh_il.specs.Checks.{is_proper, has_proper_names}
-use Rattle.rh_il_text.specs.declared.word.Keyword.{Keyword}
+use Rattle.rh_il.specs.declared.keyword.Keyword.{Keyword}
 use Rattle.rh_il_text.specs.declared.word.Word.{Word}
 use Rattle.rh_il_text.specs.declared.word.Word.TheVariants.{Sign as SignWord, Name, Other}
 use Rattle.rh_il_text.specs.declared.source.Source.{Source}
-use Rattle.rh_il_text.specs.Words.{keyword_of, lower_word, word_as, words_of}
+use Rattle.rh_il.specs.Keywords.{keyword_of}
+use Rattle.rh_il_text.specs.Words.{lower_word, word_as, words_of}
 use Rattle.rh_il_text.specs.Source.{more_words, locals_words, closed_words, source_words, file_words, vars_entries}
 use Rattle.rh_il_text.specs.Known.{proc_of}
 

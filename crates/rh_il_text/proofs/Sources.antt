@@ -1,5 +1,6 @@
 -- Procedures, read one after another.
 use Rattle.std.proofs.Common.{◌≡◌, ℕ, List, [], ◌∷◌, ◌++◌, Some, None, refl, sym, ap, ◌∙◌, subst, ⊎_elim, append_assoc, append-nil}
+use Rattle.std.proofs.lemmas.Option.{same_Some}
 use Rattle.std.proofs.lemmas.List.{flat_map_more}
 use Rattle.std.specs.List.{flat_map}
 use Rattle.std.specs.Borrow.{Bor}
@@ -8,7 +9,7 @@ use Rattle.rh_grammar.specs.declared.grammar.Symbol.{Symbol}
 use Rattle.rh_grammar.specs.declared.grammar.Symbol.TheVariants.{Token, Rule}
 use Rattle.rh_grammar.proofs.Inversion.{inverted}
 use Rattle.rh_grammar.proofs.Derivations.{nothing}
-use Rattle.rh_il_text.specs.declared.word.Keyword.TheVariants.{Var as VarWord}
+use Rattle.rh_il.specs.declared.keyword.Keyword.TheVariants.{Var as VarWord}
 use Rattle.rh_il_text.specs.declared.word.Word.{Word}
 use Rattle.rh_il_text.specs.declared.word.Word.TheVariants.{Sign as SignWord, Keyword as KeywordWord, Name}
 use Rattle.rh_il_text.specs.declared.source.Line.{Line}
@@ -19,7 +20,7 @@ use Rattle.rh_il_text.specs.Reading.{behind_sign, behind_keyword, name_at, head_
 use Rattle.rh_il_text.specs.Source.{locals_words, closed_words, source_words, file_words}
 use Rattle.rh_il_text.specs.Parts.{Derived, Listed, MoreRead, LocalsRead, BodyRead, SourceFound, SourceRead, FileRead}
 use Rattle.rh_il_text.proofs.Fronts.{Front, Passed, sign_front, keyword_front, name_front}
-use Rattle.rh_il_text.proofs.Parts.{some_is, some_none}
+use Rattle.rh_il_text.proofs.Parts.{some_none}
 
 -- the locals of a procedure, by the word at the front
 module _ (α : List Symbol) (old : List (List ℕ)) (words : List Word) where
@@ -38,18 +39,18 @@ module _ (α : List Symbol) (old : List (List ℕ)) (words : List Word) where
   by_locals : {C : Type 0} → (Derived declared words → C) → (Derived (Token open_brace ∷ α) words → C) → Derived (Rule locals ∷ Token open_brace ∷ α) words → C
   by_locals f g d = ⊎_elim f g (inverted productions locals (Token open_brace ∷ α) (classes_of words) d)
 
-  -- behind the word `var`
+  -- after the word `var`
   behind_is : (behind : List Word) → behind_keyword VarWord words ≡ Some behind → Derived declared words → (words ≡ KeywordWord VarWord ∷ behind) × Derived (Token name ∷ Rule more_locals ∷ Token open_brace ∷ α) behind
   behind_is behind is d =
       let p = var_there d in
-      let same : p.rest ≡ behind = some_is p.rest behind (sym p.found_is ∙ is) in
+      let same : p.rest ≡ behind = same_Some p.rest behind (sym p.found_is ∙ is) in
       (p.words_are ∙ ap (λ ws. KeywordWord VarWord ∷ ws) same, subst (Derived (Token name ∷ Rule more_locals ∷ Token open_brace ∷ α)) same p.derived)
 
   locals_from : (behind : List Word) (first : List ℕ) (rest : List Word) (new : List (List ℕ)) (end : List Word) → behind_keyword VarWord words ≡ Some behind → name_at behind ≡ Some (first, rest) → MoreRead (old ++ first ∷ []) rest new end → Derived declared words → Listed locals_words (Token open_brace ∷ α) old words new end
   locals_from behind first rest new end is named more d =
       let b = behind_is behind is d in
       let n = name_front (Rule more_locals ∷ Token open_brace ∷ α) behind b.1 in
-      let same : (n.part, n.rest) ≡ (first, rest) = some_is (n.part, n.rest) (first, rest) (sym n.found_is ∙ named) in
+      let same : (n.part, n.rest) ≡ (first, rest) = same_Some (n.part, n.rest) (first, rest) (sym n.found_is ∙ named) in
       let are : behind ≡ Name first ∷ rest = n.words_are ∙ ap (λ r. Name r.0 ∷ r.1) same in
       let l = more α (subst (λ r. Derived (Rule more_locals ∷ Token open_brace ∷ α) r.1) same n.derived) in
       record {
@@ -120,7 +121,7 @@ module _ (α : List Symbol) (words : List Word) (d : Derived (Rule procedure ∷
   module _ (called param : List ℕ) (r1 : List Word) (headed : head_at words ≡ Some ((called, param), r1)) where
     head_is : (words ≡ head_words (called, param) ++ r1) × Derived behind_head r1
     head_is =
-        let same : (front.part, front.rest) ≡ ((called, param), r1) = some_is (front.part, front.rest) ((called, param), r1) (sym front.found_is ∙ headed) in
+        let same : (front.part, front.rest) ≡ ((called, param), r1) = same_Some (front.part, front.rest) ((called, param), r1) (sym front.found_is ∙ headed) in
         (subst (λ r. words ≡ head_words r.0 ++ r.1) same front.words_are, subst (λ r. Derived behind_head r.1) same front.derived)
 
     module _ (vars : List (List ℕ)) (r2 : List Word) (locals_read : LocalsRead (param ∷ []) r1 vars r2) where
@@ -132,7 +133,7 @@ module _ (α : List Symbol) (words : List Word) (d : Derived (Rule procedure ∷
 
       module _ (r3 : List Word) (open_is : behind_sign OpenBrace r2 ≡ Some r3) (lines : List Line) (r4 : List Word) (body_read : BodyRead [] r3 lines r4) where
         inner_is : opened.rest ≡ r3
-        inner_is = some_is opened.rest r3 (sym opened.found_is ∙ open_is)
+        inner_is = same_Some opened.rest r3 (sym opened.found_is ∙ open_is)
 
         lines_are : Listed (flat_map closed_words) (Token close_brace ∷ α) [] r3 lines r4
         lines_are = body_read α (subst (Derived in_block) inner_is opened.derived)
@@ -142,7 +143,7 @@ module _ (α : List Symbol) (words : List Word) (d : Derived (Rule procedure ∷
 
         module _ (last : Bor (List Word)) (close_is : behind_sign CloseBrace r4 ≡ Some last.now) where
           end_is : closed.rest ≡ last.now
-          end_is = some_is closed.rest last.now (sym closed.found_is ∙ close_is)
+          end_is = same_Some closed.rest last.now (sym closed.found_is ∙ close_is)
 
           abbrev made : Source
           made = record { name = called; vars = vars; body = lines }
@@ -202,7 +203,7 @@ pub file_more : (words : List Word) (sources : List Source) (rest : List Word) (
 file_more words sources rest new behind kept filled read = λ d.
     let h = kept d in
     let f = read (Rule program ∷ []) (more_program rest filled h.derived) in
-    let same : f.behind.now ≡ behind.now = sym (ap (λ (b : Bor (List Word)). b.now) (some_is behind f.behind f.found_is)) in
+    let same : f.behind.now ≡ behind.now = sym (ap (λ (b : Bor (List Word)). b.now) (same_Some behind f.behind f.found_is)) in
     record {
       words_are = h.words_are ∙ ap (λ ws. file_words sources ++ ws) (f.words_are ∙ ap (λ ws. source_words f.source ++ ws) same)
           ∙ sym (append_assoc (file_words sources) (source_words f.source) behind.now)

@@ -5,7 +5,7 @@ use Rattle.rh_text.specs.declared.sign.Sign.TheVariants.{Becomes, Star}
 use Rattle.rh_grammar.specs.declared.grammar.Symbol.{Symbol}
 use Rattle.rh_grammar.specs.declared.grammar.Symbol.TheVariants.{Token, Rule}
 use Rattle.rh_grammar.proofs.Inversion.{inverted}
-use Rattle.rh_il_text.specs.declared.word.Keyword.TheVariants.{Skip as SkipWord, Goto as GotoWord, If as IfWord, Else as ElseWord, Return as ReturnWord}
+use Rattle.rh_il.specs.declared.keyword.Keyword.TheVariants.{Skip as SkipWord, Goto as GotoWord, If as IfWord, Else as ElseWord, Return as ReturnWord}
 use Rattle.rh_il_text.specs.declared.word.Word.{Word}
 use Rattle.rh_il_text.specs.declared.word.Word.TheVariants.{Sign as SignWord, Keyword as KeywordWord, Name, Number}
 use Rattle.rh_il_text.specs.declared.source.Operand.{Operand}
@@ -19,7 +19,7 @@ use Rattle.rh_il_text.specs.Parts.{Derived}
 use Rattle.rh_il_text.proofs.Fronts.{Front, sign_front, keyword_front, name_front, index_front, operand_front}
 use Rattle.rh_il_text.proofs.Assignments.{Built, assigned, along, assigned_front}
 
--- a write through a variable behind the `*`
+-- a write through a variable after the `*`
 write_front : (α : List Symbol) (words : List Word) → Derived (Token name ∷ Token becomes ∷ Rule base ∷ α) words → Built (SignWord Star ∷ []) α words (write_at words)
 unfolding write_at
 write_front α words d =
@@ -149,6 +149,6 @@ built α words d =
     (⊎_elim (through_front (Token semicolon ∷ α) words) (assignment_front α words)))))
     (inverted productions statement (Token semicolon ∷ α) (classes_of words) d)
 
--- a statement and the `;` behind it
+-- a statement and the `;` after it
 pub statement_front : (α : List Symbol) (words : List Word) → Derived (Rule statement ∷ Token semicolon ∷ α) words → Front line_words (Token semicolon ∷ α) words (statement_at words)
 statement_front α words d = whole (Token semicolon ∷ α) words (statement_at words) (built α words d)

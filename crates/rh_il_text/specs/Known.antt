@@ -25,7 +25,7 @@ is_known names name = list_any (bytes_eq name) names
 abbrev pub is_there : Word → Bool
 is_there word = true
 
--- For each word whether it is no name that is missing: a variable that the procedure does not
+-- For each word, whether it is anything but an unknown name: a variable that the procedure does not
 -- declare, or a called procedure that the file does not have.
 abbrev pub operand_marks : List (List ℕ) → List (List ℕ) → Operand → List Bool
 operand_marks vars procs = operand_entries (is_known vars) (is_known procs) is_there

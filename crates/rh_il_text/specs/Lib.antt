@@ -6,4 +6,3 @@ pub mod Source
 pub mod Parts
 pub mod Known
 pub mod Program
-pub mod Index

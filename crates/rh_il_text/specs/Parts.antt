@@ -23,7 +23,7 @@ pub record Listed {X : Type 0} (spell : List X → List Word) (symbols : List Sy
   pub words_are : words ≡ spell parts ++ rest
   pub derived : Derived symbols rest
 
--- the names behind commas, up to the brace
+-- the names after commas, up to the brace
 abbrev pub MoreRead : List (List ℕ) → List Word → List (List ℕ) → List Word → Type 0
 MoreRead old words new rest =
     (α : List Symbol) → Derived (Rule more_locals ∷ Token open_brace ∷ α) words → Listed more_words (Token open_brace ∷ α) old words new rest

@@ -1,5 +1,5 @@
 -- What a byte list is a text of, and its one fault.
-use Rattle.std.specs.Prelude.{◌≡◌, ◌⊎◌, ℕ, not, List, length, Option, Some, None, Result, Ok, Err, slice_get}
+use Rattle.std.specs.Prelude.{◌≡◌, ◌≢◌, ◌⊎◌, ℕ, not, List, length, Option, Some, None, Result, Ok, Err, slice_get}
 use Rattle.std.specs.List.{position}
 use Rattle.std.specs.Option.{option_map_or}
 use Rattle.rh_text.specs.declared.token.Token.{Token}
@@ -45,7 +45,7 @@ pub record IsText (text : List ℕ) (procs : List Proc) : Type 0 where
 abbrev pub start_of : List ℕ → List Token → ℕ → ℕ
 start_of text tokens place = option_map_or (λ token. token.start) (slice_get tokens place) (length text)
 
--- the tokens before the offset begin those of a program, and with the next one they do not
+-- at the offset stands the first token that cannot continue the text of a program
 pub record IsSyntaxAt (text : List ℕ) (at : ℕ) : Type 0 where
   pub tokens : List Token
   pub are_tokens : AreTokens text tokens
@@ -79,7 +79,7 @@ FaultsAs text (Program (Wrong kind proc item)) = IsWrong text (Wrong kind proc i
 FaultsAs text (Program NoProgMemory) = ⊥
 FaultsAs text NoMemory = Unit {0}
 
--- want of memory is told as such alone
+-- out of memory, and no fault of the text
 abbrev pub of_lexer : LexFault → ReadFault
 of_lexer (BadByte at) = Lex (BadByte at)
 of_lexer (NumberRange at) = Lex (NumberRange at)
@@ -90,12 +90,19 @@ abbrev pub of_checks : ProgFault → ReadFault
 of_checks (Wrong kind proc item) = Program (Wrong kind proc item)
 of_checks NoProgMemory = NoMemory
 
--- this program, or want of memory
+-- this program, or out of memory
 abbrev pub IsProgram : List Proc → Result (List Proc) ReadFault → Type 0
 IsProgram procs (Ok read) = read ≡ procs
 IsProgram procs (Err fault) = fault ≡ NoMemory
 
--- this fault, or want of memory
+-- this fault, or out of memory
 abbrev pub IsFault : ReadFault → Result (List Proc) ReadFault → Type 0
 IsFault fault (Ok read) = ⊥
 IsFault fault (Err other) = (other ≡ fault) ⊎ (other ≡ NoMemory)
+
+-- The bytes are a text of one program or have one fault, and never both. To be out of memory is no fault
+-- of theirs.
+pub record HasOneAnswer (text : List ℕ) : Type 0 where
+  pub one_program : (a b : List Proc) → IsText text a → IsText text b → a ≡ b
+  pub one_fault : (f g : ReadFault) → FaultsAs text f → FaultsAs text g → f ≢ NoMemory → g ≢ NoMemory → f ≡ g
+  pub not_both : (procs : List Proc) (fault : ReadFault) → IsText text procs → FaultsAs text fault → fault ≡ NoMemory

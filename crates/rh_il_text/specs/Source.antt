@@ -5,7 +5,7 @@ use Rattle.rh_text.specs.declared.sign.Sign.{Sign}
 use Rattle.rh_text.specs.declared.sign.Sign.TheVariants.{Becomes, Equal, Semicolon, Comma, OpenParen, CloseParen, OpenBrace, CloseBrace, Plus, Minus, Star, Less, Ampersand}
 use Rattle.rh_il.specs.declared.value.Op.{Op}
 use Rattle.rh_il.specs.declared.value.Op.TheVariants.{Add, Sub, Mul, Less as LessOp, Equal as EqualOp}
-use Rattle.rh_il_text.specs.declared.word.Keyword.TheVariants.{Skip as SkipWord, Goto as GotoWord, If as IfWord, Else as ElseWord, Return as ReturnWord, New as NewWord, Var as VarWord}
+use Rattle.rh_il.specs.declared.keyword.Keyword.TheVariants.{Skip as SkipWord, Goto as GotoWord, If as IfWord, Else as ElseWord, Return as ReturnWord, New as NewWord, Var as VarWord}
 use Rattle.rh_il_text.specs.declared.word.Word.{Word}
 use Rattle.rh_il_text.specs.declared.word.Word.TheVariants.{Sign as SignWord, Keyword as KeywordWord, Name, Number}
 use Rattle.rh_il_text.specs.declared.source.Operand.{Operand}
@@ -51,7 +51,7 @@ module _ {X : Type 0} (var proc : List ℕ → X) (other : Word → X) where
   abbrev pub closed_line : Line → List X
   closed_line line = line_entries line ++ other (SignWord Semicolon) ∷ []
 
-  -- the locals behind the first one
+  -- the locals after the first one
   abbrev pub more_entries : List (List ℕ) → List X
   more_entries names = flat_map (λ name. other (SignWord Comma) ∷ other (Name name) ∷ []) names
 

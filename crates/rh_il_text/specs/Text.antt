@@ -4,12 +4,12 @@ use Rattle.std.specs.List.{flat_map}
 use Rattle.std.specs.Option.{option_map_or}
 use Rattle.std.specs.Fmt.{decimal, signed_decimal}
 use Rattle.rh_il.specs.declared.value.Op.{Op}
-use Rattle.rh_il.specs.declared.value.Op.TheVariants.{Add, Sub, Mul, Less, Equal}
 use Rattle.rh_il.specs.declared.program.Base.{Base}
 use Rattle.rh_il.specs.declared.program.Base.TheVariants.{Var, Num}
 use Rattle.rh_il.specs.declared.program.Stmt.{Stmt}
 use Rattle.rh_il.specs.declared.program.Stmt.TheVariants.{Skip, Copy, Address, Load, Compute, Write, New, Call, Goto, If, Return}
 use Rattle.rh_il.specs.declared.program.Proc.{Proc}
+use Rattle.rh_print.specs.Operators.{op_text}
 
 -- the name at a place
 abbrev pub name_at : List (List ℕ) → ℕ → List ℕ
@@ -18,13 +18,6 @@ name_at names i = option_map_or (λ name. name) (slice_get names i) []
 -- the name of a procedure
 abbrev pub proc_name : List Proc → ℕ → List ℕ
 proc_name procs i = option_map_or (λ p. p.name) (slice_get procs i) []
-
-abbrev pub op_text : Op → List ℕ
-op_text Add = codes "+"
-op_text Sub = codes "-"
-op_text Mul = codes "*"
-op_text Less = codes "<"
-op_text Equal = codes "=="
 
 abbrev pub base_text : List (List ℕ) → Base → List ℕ
 base_text vars (Var x) = name_at vars x
@@ -62,7 +55,7 @@ stmt_text procs vars (Return value) = codes "return " ++ base_text vars value
 abbrev pub line_text : List Proc → List (List ℕ) → Stmt → List ℕ
 line_text procs vars stmt = codes "  " ++ stmt_text procs vars stmt ++ codes ";\n"
 
--- the locals behind the parameter
+-- the locals after the parameter
 abbrev pub locals_text : List (List ℕ) → List ℕ
 locals_text [] = []
 locals_text (first ∷ others) = codes " var " ++ first ++ flat_map (λ name. codes ", " ++ name) others

@@ -1,30 +1,18 @@
 -- The words of program texts, and their classes in the grammar.
-use Rattle.std.specs.Prelude.{ℕ, ◌^◌, List, map, Option, Some, None, codes, nat_lt, if◌then◌else◌}
-use Rattle.std.specs.Str.{bytes_eq}
+use Rattle.std.specs.Prelude.{ℕ, ◌^◌, List, map, Option, Some, None, nat_lt, if◌then◌else◌}
 use Rattle.rh_text.specs.declared.token.Token.{Token}
 use Rattle.rh_text.specs.declared.token.TokenKind.{TokenKind}
 use Rattle.rh_text.specs.declared.token.TokenKind.TheVariants.{Lower, Upper, Number as NumberKind, Sign as SignKind}
 use Rattle.rh_text.specs.Words.{spelling, value_of, sign_number}
+use Rattle.rh_il.specs.Keywords.{keyword_of}
 use Rattle.rh_il.specs.Checks.{is_proper}
-use Rattle.rh_il_text.specs.declared.word.Keyword.{Keyword}
-use Rattle.rh_il_text.specs.declared.word.Keyword.TheVariants.{Skip, Goto, If, Else, Return, New, Var}
+use Rattle.rh_il.specs.declared.keyword.Keyword.{Keyword}
+use Rattle.rh_il.specs.declared.keyword.Keyword.TheVariants.{Skip, Goto, If, Else, Return, New, Var}
 use Rattle.rh_il_text.specs.declared.word.Word.{Word}
 use Rattle.rh_il_text.specs.declared.word.Word.TheVariants.{Sign, Keyword as KeywordWord, Name, Number, Other}
 use Rattle.rh_il_text.specs.Grammar.{name, index, size, least}
 
--- the word that is no name and is spelled so
-abbrev pub keyword_of : List ℕ → Option Keyword
-keyword_of bytes =
-    if bytes_eq bytes (codes "skip") then Some Skip
-    else (if bytes_eq bytes (codes "goto") then Some Goto
-    else (if bytes_eq bytes (codes "if") then Some If
-    else (if bytes_eq bytes (codes "else") then Some Else
-    else (if bytes_eq bytes (codes "return") then Some Return
-    else (if bytes_eq bytes (codes "new") then Some New
-    else (if bytes_eq bytes (codes "var") then Some Var
-    else None))))))
-
--- the classes of the words that are no names stand behind those of the signs
+-- the classes of reserved words come after those of the signs
 abbrev pub keyword_number : Keyword → ℕ
 keyword_number Skip = 17
 keyword_number Goto = 18
@@ -38,7 +26,7 @@ keyword_number Var = 23
 abbrev pub name_word : List ℕ → Word
 name_word bytes = if is_proper bytes then Name bytes else Other
 
--- a name, unless the bytes are a word that is no name
+-- a name, unless the word is reserved
 abbrev pub lower_word : Option Keyword → List ℕ → Word
 lower_word (Some keyword) bytes = KeywordWord keyword
 lower_word None bytes = name_word bytes
@@ -54,7 +42,7 @@ word_as (SignKind sign) text token = Sign sign
 abbrev pub word_of : List ℕ → Token → Word
 word_of text token = word_as token.kind text token
 
--- the class of a number: a target or an operand, an operand, or an operand behind `-` alone
+-- the class of a number: a target or an operand, an operand, or an operand that may only follow `-`
 abbrev pub number_class : ℕ → ℕ
 number_class n = if nat_lt n (2 ^ 32) then index else (if nat_lt n (2 ^ 63) then size else least)
 

@@ -1,4 +1,4 @@
-//! Why bytes are no text of a program.
+//! Why bytes are not a text of a program.
 
 ghost use Rattle.std.specs.Prelude.{◌≡◌};
 ghost use Rattle.rh_il_text.specs.declared.fault.ReadFault.TheVariants.{NoMemory};
@@ -7,14 +7,14 @@ use rh_il::ProgFault;
 use rh_text::LexFault;
 use std::alloc::{AllocError, AllocFailed};
 
-/// Why bytes are no text of a program. The first fault is told, in the order of the variants. An
-/// offset is that of the first byte of a token. Want of memory is told as such alone, never inside
-/// `Lex` or `Program`.
+/// Why bytes are not a text of a program: the first fault, in the order of the variants. An offset is
+/// that of the first byte of a token. To be out of memory is always `NoMemory`, never inside `Lex` or
+/// `Program`.
 #[derive(Clone, Copy, Debug, PartialEq, Eq)]
 pub enum ReadFault {
     /// The bytes are not cut into tokens.
     Lex(LexFault),
-    /// The token at this offset, or the end of the text, can't come behind what stands before it.
+    /// At this offset stands the first token that cannot continue a program, or the text ends too early.
     Syntax(u32),
     /// The procedure doesn't declare the variable at this offset, or the file doesn't have the
     /// procedure that is called there.

@@ -1,45 +1,11 @@
 //! The grammar of programs. One word of lookahead decides.
 
-use rh_grammar::{Grammar, Production, Symbol};
+use rh_grammar::{Grammar, derives, row};
 
 mod class;
 
 /// The nonterminal of whole programs.
 pub(crate) const PROGRAM: u8 = 0;
-
-/// A symbol: a class of words in brackets, or the number of a nonterminal.
-macro_rules! symbol {
-    ([$class:ident]) => {
-        Symbol::Token(class::$class)
-    };
-    ($rule:literal) => {
-        Symbol::Rule($rule)
-    };
-}
-
-/// What the nonterminal of a number may be replaced by.
-macro_rules! derives {
-    ($rule:literal: $($symbol:tt)*) => {
-        Production { of: $rule, to: &[$(symbol!($symbol)),*] }
-    };
-}
-
-/// The number of a production, or `_`.
-macro_rules! choice {
-    (_) => {
-        None
-    };
-    ($number:literal) => {
-        Some($number)
-    };
-}
-
-/// The production to take at each class of words.
-macro_rules! row {
-    ($($choice:tt)*) => {
-        &[$(choice!($choice)),*]
-    };
-}
 
 /// The productions, and for each nonterminal and each class which of them to take.
 pub(crate) const PROGRAMS: Grammar<'static> = Grammar {

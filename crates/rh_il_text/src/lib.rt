@@ -5,7 +5,6 @@ mod fault;
 mod grammar;
 mod judge;
 mod marks;
-mod names;
 mod printer;
 mod read;
 mod reader;
@@ -15,6 +14,5 @@ mod statement;
 mod word;
 
 pub use fault::ReadFault;
-pub use names::Names;
-pub use printer::{op_text, print_program, push, push_number};
-pub use read::read_program;
+pub use printer::print_program;
+pub use read::{program_texts_have_one_answer, read_program};

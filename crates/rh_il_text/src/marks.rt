@@ -1,12 +1,12 @@
-//! Which words are names that are missing.
+//! Which words are unknown names.
 
 ghost use Rattle.std.specs.Prelude.{◌≡◌, ◌++◌, map, OnOk, IfOk};
 ghost use Rattle.std.specs.List.{flat_map};
 ghost use Rattle.rh_il_text.specs.Known.{operand_marks, line_marks, closed_marks, more_marks, locals_marks, vars_marks, source_marks, names_of, file_marks};
 
-use crate::names::Names;
 use crate::source::{Line, Operand, Source};
 use rh_il::Name;
+use rh_names::Names;
 use std::alloc::{AllocError, Global};
 
 fn push(marks: &mut Vec<bool>, more: &[bool]) -> Result<(), AllocError>
@@ -179,7 +179,7 @@ pub(crate) fn names_of(alloc: Global, sources: &[Source]) -> Result<Names, Alloc
     Names::of(alloc, &names)
 }
 
-/// For each word of procedures whether it is no name that is missing.
+/// For each word of procedures, whether it is anything but an unknown name.
 pub(crate) fn marks_of(
     alloc: Global,
     procs: &Names,

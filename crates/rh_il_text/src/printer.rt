@@ -2,19 +2,12 @@
 
 ghost use Rattle.std.specs.Prelude.{◌≡◌, ◌++◌, codes, IfOk, OnOk};
 ghost use Rattle.std.specs.List.{flat_map};
-ghost use Rattle.std.specs.Fmt.{decimal, signed_decimal};
 ghost use Rattle.rh_il_text.specs.Program.{IsText};
-ghost use Rattle.rh_il_text.specs.Text.{name_at, proc_name, op_text, base_text, to_text, compute_text, call_text, branch_text, stmt_text, line_text, locals_text, vars_text, proc_text, text_at, program_text};
+ghost use Rattle.rh_il_text.specs.Text.{name_at, proc_name, base_text, to_text, compute_text, call_text, branch_text, stmt_text, line_text, locals_text, vars_text, proc_text, text_at, program_text};
 
 use rh_il::{Base, Name, Op, Proc, Program, Stmt, numbers_fit};
+use rh_print::{op_text, push, push_count, push_number};
 use std::alloc::{AllocError, Global};
-
-/// Adds bytes to a text.
-pub fn push(out: &mut Vec<u8>, bytes: &[u8]) -> Result<(), AllocError>
-    ensures { OnOk result (out.new.items ≡ out.old.items ++ bytes.now) }
-{
-    out.extend_from_slice(bytes)
-}
 
 fn push_name(out: &mut Vec<u8>, names: &[Name], number: u32) -> Result<(), AllocError>
     ensures { OnOk result (out.new.items ≡ out.old.items ++ name_at names.now number) }
@@ -34,40 +27,12 @@ fn push_proc_name(out: &mut Vec<u8>, program: &Program, number: u32) -> Result<(
     }
 }
 
-fn push_target(alloc: Global, out: &mut Vec<u8>, number: u32) -> Result<(), AllocError>
-    ensures { OnOk result (out.new.items ≡ out.old.items ++ decimal number) }
-{
-    let text = format!(in alloc; "{number}")?;
-    push(out, text.as_bytes())
-}
-
-/// Adds a number to a text, with a sign where it is below 0.
-pub fn push_number(alloc: Global, out: &mut Vec<u8>, number: i64) -> Result<(), AllocError>
-    ensures { OnOk result (out.new.items ≡ out.old.items ++ signed_decimal number) }
-{
-    let text = format!(in alloc; "{number}")?;
-    push(out, text.as_bytes())
-}
-
 fn push_base(alloc: Global, out: &mut Vec<u8>, vars: &[Name], base: Base) -> Result<(), AllocError>
     ensures { OnOk result (out.new.items ≡ out.old.items ++ base_text vars.now base) }
 {
     match base {
         Base::Var(x) => push_name(out, vars, x),
         Base::Num(number) => push_number(alloc, out, number),
-    }
-}
-
-/// The sign of an operator.
-pub fn op_text(op: Op) -> &'static [u8]
-    ensures { result.now ≡ op_text op }
-{
-    match op {
-        Op::Add => b"+",
-        Op::Sub => b"-",
-        Op::Mul => b"*",
-        Op::Less => b"<",
-        Op::Equal => b"==",
     }
 }
 
@@ -123,9 +88,9 @@ fn push_branch(
     push(out, b"if ")?;
     push_base(alloc, out, vars, cond)?;
     push(out, b" goto ")?;
-    push_target(alloc, out, targets.0)?;
+    push_count(alloc, out, u64::from(targets.0))?;
     push(out, b" else ")?;
-    push_target(alloc, out, targets.1)
+    push_count(alloc, out, u64::from(targets.1))
 }
 
 /// A statement without its `;`.
@@ -178,7 +143,7 @@ fn push_stmt(
         }
         Stmt::Goto { to } => {
             push(out, b"goto ")?;
-            push_target(alloc, out, to)
+            push_count(alloc, out, u64::from(to))
         }
         Stmt::If { cond, yes, no } => push_branch(alloc, out, vars, cond, (yes, no)),
         Stmt::Return { value } => {
@@ -203,7 +168,7 @@ fn push_line(
     push(out, b";\n")
 }
 
-/// The names of locals, each behind a comma but the first.
+/// The names of locals, each after a comma but the first.
 fn push_locals(out: &mut Vec<u8>, locals: &[Name]) -> Result<(), AllocError>
     ensures { OnOk result (out.new.items ≡ out.old.items ++ locals_text locals.now) }
 {

@@ -1,6 +1,6 @@
 //! Reads programs from bytes.
 
-ghost use Rattle.std.specs.Prelude.{◌≡◌, ◌≢◌, ◌≤◌, true, not, List, length, IfOk, IfErr, Some, None};
+ghost use Rattle.std.specs.Prelude.{◌≡◌, ◌≢◌, ◌≤◌, ℕ, true, not, List, length, IfOk, IfErr, Some, None};
 ghost use Rattle.std.specs.List.{All, list_all, position};
 ghost use Rattle.rh_text.specs.Words.{IsTokenOf};
 ghost use Rattle.rh_text.specs.Pieces.{AreTokens};
@@ -8,7 +8,7 @@ ghost use Rattle.rh_il.specs.declared.program.Proc.{Proc};
 ghost use Rattle.rh_il.specs.declared.fault.ProgFault.{ProgFault};
 ghost use Rattle.rh_il.specs.Checks.{has_proper_names, program_fault};
 ghost use Rattle.rh_il_text.specs.Words.{words_of, classes_of};
-ghost use Rattle.rh_il_text.specs.Program.{Spells, IsText, start_of, FaultsAs, IsProgram, IsFault, of_lexer, of_checks};
+ghost use Rattle.rh_il_text.specs.Program.{Spells, IsText, start_of, FaultsAs, HasOneAnswer, IsProgram, IsFault, of_lexer, of_checks};
 ghost use Rattle.rh_il_text.specs.declared.fault.ReadFault.{ReadFault};
 ghost use Rattle.rh_il_text.specs.declared.fault.ReadFault.TheVariants.{NoMemory};
 
@@ -150,3 +150,8 @@ pub fn read_program(alloc: Global, src: &[u8]) -> Result<Program, ReadFault>
         Err(fault) => Err(of_lexer(fault)),
     }
 }
+
+/// A law: bytes are a text of one program or have one fault, and never both.
+pub fn program_texts_have_one_answer()
+    ensures { (text : List ℕ) → HasOneAnswer text }
+{}

@@ -7,13 +7,13 @@ ghost use Rattle.rh_il_text.specs.Parts.{MoreRead, LocalsRead, BodyRead, SourceR
 
 use crate::source::{Line, Source};
 use crate::statement::{behind_keyword, behind_sign, closed_at, head_at, listed_at, name_at};
-use crate::word::{Keyword, Word};
-use rh_il::Name;
+use crate::word::Word;
+use rh_il::{Keyword, Name};
 use rh_list::Items;
 use rh_text::Sign;
 use std::alloc::{AllocError, Global};
 
-/// The names behind commas.
+/// The names after commas.
 fn read_more<'w>(vars: &mut Items<Name>, words: &'w [Word]) -> Result<&'w [Word], AllocError>
     ensures read { IfOk result (λ rest. MoreRead vars.old words.now vars.new rest.now) }
     ensures shorter { IfOk result (λ rest. length rest.now ≤ length words.now) }
@@ -54,7 +54,7 @@ fn read_body<'w>(body: &mut Items<Line>, words: &'w [Word]) -> Result<&'w [Word]
     Ok(rest)
 }
 
-/// A procedure, and the words behind it.
+/// A procedure, and the words after it.
 fn read_source<'w>(
     alloc: Global,
     sources: &mut Items<Source>,

@@ -3,10 +3,10 @@
 ghost use Rattle.std.specs.Prelude.{◌≡◌, map, IfOk};
 ghost use Rattle.rh_il_text.specs.Known.{place_of, number_of, base_of, stmt_of, proc_of, names_of};
 
-use crate::names::Names;
 use crate::source::{Line, Operand, Source};
 use rh_il::{Base, Name, Proc, Stmt};
 use rh_list::Items;
+use rh_names::Names;
 use rh_text::signed;
 use std::alloc::{AllocError, Global};
 

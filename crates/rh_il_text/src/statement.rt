@@ -4,11 +4,11 @@ ghost use Rattle.std.specs.Prelude.{◌≡◌, ◌≤◌, ◌<◌, length, IfSom
 ghost use Rattle.rh_il_text.specs.Reading.{told, told_rest, behind_sign, behind_keyword, name_at, number_at, index_at, negative_at, operand_at, sign_op, op_at, behind_operand, call_at, behind_name, computed_at, value_at, assigned_at, write_at, targets_at, branch_at, statement_at, closed_at, listed_at, head_at};
 
 use crate::source::{Line, Operand};
-use crate::word::{Keyword, Word};
-use rh_il::{Name, Op};
+use crate::word::{Word, keyword_number};
+use rh_il::{Keyword, Name, Op};
 use rh_text::Sign;
 
-/// The words behind a sign.
+/// The words after a sign.
 pub(crate) fn behind_sign(sign: Sign, words: &[Word]) -> Option<&[Word]>
     ensures told { told_rest result ≡ behind_sign sign words.now }
     ensures shorter { IfSome result (λ rest. length rest.now < length words.now) }
@@ -20,14 +20,14 @@ pub(crate) fn behind_sign(sign: Sign, words: &[Word]) -> Option<&[Word]>
     }
 }
 
-/// The words behind one that is no name.
+/// The words after a reserved word.
 pub(crate) fn behind_keyword(keyword: Keyword, words: &[Word]) -> Option<&[Word]>
     ensures told { told_rest result ≡ behind_keyword keyword words.now }
     ensures shorter { IfSome result (λ rest. length rest.now < length words.now) }
 {
     let (first, rest) = words.split_first()?;
     match *first {
-        Word::Keyword(other) if other.number() == keyword.number() => Some(rest),
+        Word::Keyword(other) if keyword_number(other) == keyword_number(keyword) => Some(rest),
         _ => None,
     }
 }
@@ -68,7 +68,7 @@ fn index_at(words: &[Word]) -> Option<(u32, &[Word])>
     }
 }
 
-/// A number behind `-`.
+/// A number after `-`.
 #[tactic(auto, unfolding(crate::specs::Reading::negative_at))]
 fn negative_at(words: &[Word]) -> Option<(Operand, &[Word])>
     ensures told { told result ≡ negative_at words.now }
@@ -122,7 +122,7 @@ fn op_at(words: &[Word]) -> Option<(Op, &[Word])>
     }
 }
 
-/// What is assigned, behind its first operand.
+/// What is assigned, after its first operand.
 #[tactic(auto, unfolding(crate::specs::Reading::behind_operand))]
 fn behind_operand(to: Name, left: Operand, words: &[Word]) -> Option<(Line, &[Word])>
     ensures told { told result ≡ behind_operand to left words.now }
@@ -145,7 +145,7 @@ fn behind_operand(to: Name, left: Operand, words: &[Word]) -> Option<(Line, &[Wo
     }
 }
 
-/// The argument of a call, behind the bracket.
+/// The argument of a call, after the bracket.
 #[tactic(auto, unfolding(crate::specs::Reading::call_at))]
 fn call_at(to: Name, proc: Name, words: &[Word]) -> Option<(Line, &[Word])>
     ensures told { told result ≡ call_at to proc words.now }
@@ -158,7 +158,7 @@ fn call_at(to: Name, proc: Name, words: &[Word]) -> Option<(Line, &[Word])>
     Some((Line::Call { to, proc, arg }, rest))
 }
 
-/// What is assigned, behind a name with which it begins.
+/// What is assigned, after a name with which it begins.
 fn behind_name(to: Name, first: Name, words: &[Word]) -> Option<(Line, &[Word])>
     ensures told { told result ≡ behind_name to first words.now }
     ensures shorter { IfSome result (λ r. length r.1.now ≤ length words.now) }
@@ -169,7 +169,7 @@ fn behind_name(to: Name, first: Name, words: &[Word]) -> Option<(Line, &[Word])>
     }
 }
 
-/// What is assigned, behind an operand with which it begins.
+/// What is assigned, after an operand with which it begins.
 #[tactic(auto, unfolding(crate::specs::Reading::computed_at))]
 fn computed_at(to: Name, words: &[Word]) -> Option<(Line, &[Word])>
     ensures told { told result ≡ computed_at to words.now }
@@ -205,7 +205,7 @@ fn value_at(to: Name, words: &[Word]) -> Option<(Line, &[Word])>
     }
 }
 
-/// An assignment, behind its variable.
+/// An assignment, after its variable.
 #[tactic(auto, unfolding(crate::specs::Reading::assigned_at))]
 fn assigned_at(to: Name, words: &[Word]) -> Option<(Line, &[Word])>
     ensures told { told result ≡ assigned_at to words.now }
@@ -215,7 +215,7 @@ fn assigned_at(to: Name, words: &[Word]) -> Option<(Line, &[Word])>
     value_at(to, rest)
 }
 
-/// A write through a variable, behind the `*`.
+/// A write through a variable, after the `*`.
 #[tactic(auto, unfolding(crate::specs::Reading::write_at))]
 fn write_at(words: &[Word]) -> Option<(Line, &[Word])>
     ensures told { told result ≡ write_at words.now }
@@ -231,7 +231,7 @@ fn write_at(words: &[Word]) -> Option<(Line, &[Word])>
     Some((Line::Write { to, from }, rest))
 }
 
-/// The two targets of a branch, behind its condition.
+/// The two targets of a branch, after its condition.
 #[tactic(auto, unfolding(crate::specs::Reading::targets_at))]
 fn targets_at(cond: Operand, words: &[Word]) -> Option<(Line, &[Word])>
     ensures told { told result ≡ targets_at cond words.now }
@@ -244,7 +244,7 @@ fn targets_at(cond: Operand, words: &[Word]) -> Option<(Line, &[Word])>
     Some((Line::If { cond, yes, no }, rest))
 }
 
-/// A branch, behind `if`.
+/// A branch, after `if`.
 #[tactic(auto, unfolding(crate::specs::Reading::branch_at))]
 fn branch_at(words: &[Word]) -> Option<(Line, &[Word])>
     ensures told { told result ≡ branch_at words.now }
@@ -281,7 +281,7 @@ pub(crate) fn statement_at(words: &[Word]) -> Option<(Line, &[Word])>
     }
 }
 
-/// The statement at the front of words, with the `;` behind it.
+/// The statement at the front of words, with the `;` after it.
 #[tactic(auto, unfolding(crate::specs::Reading::closed_at))]
 pub(crate) fn closed_at(words: &[Word]) -> Option<(Line, &[Word])>
     ensures told { told result ≡ closed_at words.now }
@@ -294,7 +294,7 @@ pub(crate) fn closed_at(words: &[Word]) -> Option<(Line, &[Word])>
     Some((line, rest))
 }
 
-/// The name behind a comma at the front of words.
+/// The name after a comma at the front of words.
 #[tactic(auto, unfolding(crate::specs::Reading::listed_at))]
 pub(crate) fn listed_at(words: &[Word]) -> Option<(Name, &[Word])>
     ensures told { told result ≡ listed_at words.now }

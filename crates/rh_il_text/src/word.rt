@@ -2,30 +2,16 @@
 
 ghost use Rattle.std.specs.Prelude.{◌≡◌};
 ghost use Rattle.rh_text.specs.Words.{IsTokenOf};
-ghost use Rattle.rh_il_text.specs.Words.{keyword_of, keyword_number, name_word, word_of, class_of};
+ghost use Rattle.rh_il_text.specs.Words.{keyword_number, name_word, word_of, class_of};
 
-use rh_il::{Name, is_proper};
+use rh_il::{Keyword, Name, is_proper, keyword_of};
 use rh_text::{Sign, Token, TokenKind};
 
-/// A word that is no name.
-#[derive(Clone, Copy, Debug, PartialEq, Eq)]
-pub enum Keyword {
-    Skip,
-    Goto,
-    If,
-    Else,
-    Return,
-    New,
-    Var,
-}
-
-impl Keyword {
-    /// The class of the word in the grammar, behind those of the signs.
-    pub(crate) fn number(self) -> u8
-        ensures { result ≡ keyword_number self }
-    {
-        17 + self as u8
-    }
+/// The class of a reserved word in the grammar. They come after those of the signs.
+pub(crate) fn keyword_number(keyword: Keyword) -> u8
+    ensures { result ≡ keyword_number keyword }
+{
+    17 + keyword as u8
 }
 
 /// What a token says in the text of a program.
@@ -36,33 +22,11 @@ pub enum Word {
     /// A name that begins with a small letter.
     Name(Name),
     Number(u64),
-    /// A name that programs don't have.
+    /// A name that no procedure and no variable may have.
     Other,
 }
 
-fn keyword_of(name: &[u8]) -> Option<Keyword>
-    ensures { result ≡ keyword_of name.now }
-{
-    if name == b"skip".as_slice() {
-        Some(Keyword::Skip)
-    } else if name == b"goto".as_slice() {
-        Some(Keyword::Goto)
-    } else if name == b"if".as_slice() {
-        Some(Keyword::If)
-    } else if name == b"else".as_slice() {
-        Some(Keyword::Else)
-    } else if name == b"return".as_slice() {
-        Some(Keyword::Return)
-    } else if name == b"new".as_slice() {
-        Some(Keyword::New)
-    } else if name == b"var".as_slice() {
-        Some(Keyword::Var)
-    } else {
-        None
-    }
-}
-
-/// The word that a name is, if it is none of the words that are no names.
+/// The word that a name is, if it is not reserved.
 fn name_word(bytes: &[u8]) -> Word
     ensures { result ≡ name_word bytes.now }
 {
@@ -93,13 +57,13 @@ pub(crate) fn word_of(text: &[u8], token: Token) -> Word
 }
 
 /// The class of a word in the grammar. That of a number goes by its size: a target, an operand, or
-/// one that stands behind `-` alone.
+/// one that may only follow `-`.
 pub(crate) fn class_of(word: &Word) -> u8
     ensures { result ≡ class_of word.now }
 {
     match *word {
         Word::Sign(sign) => sign.number(),
-        Word::Keyword(keyword) => keyword.number(),
+        Word::Keyword(keyword) => keyword_number(keyword),
         Word::Name(_) => 24,
         Word::Number(size) => {
             if size <= 0xffff_ffff {

@@ -1,4 +1,4 @@
--- What the items of two lists have, one list behind the other.
+-- What the items of two lists have, one list after the other.
 use Rattle.std.proofs.Common.{List, [], ◌∷◌, ◌++◌}
 use Rattle.std.specs.List.{AllByRecursion}
 

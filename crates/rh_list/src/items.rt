@@ -52,7 +52,7 @@ impl<T> Items<T> {
         self.vec.is_empty()
     }
 
-    /// Puts an item at the end. Where memory is wanting it is handed back, and the list stays.
+    /// Adds an item at the end. If memory runs out, the item is handed back and the list stays as it was.
     pub fn push(&mut self, item: T) -> Result<(), AllocFailed<T>>
         ensures ok { OnOk result (self.new ≡ self.old ++ item ∷ []) }
         ensures err { OnErr result (self.new ≡ self.old) }

@@ -24,7 +24,7 @@ use Rattle.rh_report.specs.Output.{rule_line, rule_lines}
 abbrev pub AreComments : List ℕ → Type 0
 AreComments bytes = (text : List ℕ) (procs : List Proc) → IsText text procs → IsText (bytes ++ text) procs
 
--- a line behind `#`
+-- a line after `#`
 one_comment : (line : List ℕ) → list_all is_comment_byte line ≡ true → AreComments (35 ∷ line ++ 10 ∷ [])
 one_comment line free text procs is =
     let pieces = is.spells.are_tokens.pieces in
@@ -81,7 +81,7 @@ name_is_free (first ∷ rest) is =
 number_is_free : (n : ℕ) → n < 2 ^ 32 → list_all is_comment_byte (decimal n) ≡ true
 number_is_free n small = other_bytes is_ascii_digit (decimal n) refl (decimal_digits n (omega (arith, small))).1
 
--- the line of a rule, whatever stands behind its name
+-- the line of a rule, whatever stands after its name
 named_comment : (name : List ℕ) (ruled : List ℕ) → list_all is_comment_byte name ≡ true → list_all is_comment_byte ruled ≡ true → AreComments (codes "# rule " ++ (name ++ (ruled ++ 10 ∷ [])))
 named_comment name ruled free also =
     let line : List ℕ = codes " rule " ++ (name ++ ruled) in

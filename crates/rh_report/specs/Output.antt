@@ -20,7 +20,7 @@ use Rattle.rh_ground.specs.Rows.{IsGreatest}
 use Rattle.rh_oblig.specs.Ruling.{IsRuling}
 use Rattle.rh_transform.specs.Rewritten.{rewritten}
 
--- what is ruled of a rule, behind its name
+-- the ruling on a rule, after its name
 abbrev pub ruling_text : Ruling → List ℕ
 ruling_text Admitted = codes " admitted\n"
 ruling_text (Refused obligation) = codes " refused at " ++ decimal obligation ++ codes "\n"

@@ -1,4 +1,4 @@
-//! A line for each rule, and the program behind them.
+//! A line for each rule, and the program after them.
 ghost use Rattle.std.specs.Prelude.{◌≡◌, ◌++◌, IfOk, OnOk, length};
 ghost use Rattle.std.specs.List.{AllByRecursion};
 ghost use Rattle.rh_il_text.specs.Program.{IsText};
@@ -7,7 +7,8 @@ ghost use Rattle.rh_report.specs.Lines.{IsNamed, IsNumbered};
 ghost use Rattle.rh_report.specs.Output.{rule_line, rule_lines, ruling_text};
 
 use rh_il::Program;
-use rh_il_text::{print_program, push};
+use rh_il_text::print_program;
+use rh_print::{push, push_count};
 use rh_rule::{Rule, Ruling};
 use std::alloc::{AllocError, Global};
 
@@ -17,8 +18,9 @@ fn push_ruling(alloc: Global, out: &mut Vec<u8>, ruling: Ruling) -> Result<(), A
     match ruling {
         Ruling::Admitted => push(out, b" admitted\n"),
         Ruling::Refused(obligation) => {
-            let text = format!(in alloc; " refused at {obligation}\n")?;
-            push(out, text.as_bytes())
+            push(out, b" refused at ")?;
+            push_count(alloc, out, u64::from(obligation))?;
+            push(out, b"\n")
         }
     }
 }
@@ -78,7 +80,7 @@ fn are_numbered(rulings: &[Ruling])
     }
 }
 
-/// The output of `opt` for a rule file without schemas: each rule with what is ruled of it, and the
+/// The output of `opt` for a rule file without schemas: each rule with its ruling, and the
 /// rewritten program. The rules' lines are comments, so it is a text of that program.
 pub fn report(
     alloc: Global,

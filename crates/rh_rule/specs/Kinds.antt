@@ -31,7 +31,7 @@ is_var_kind Const = false
 abbrev pub is_var : List Param → ℕ → Bool
 is_var params number = option_map_or (λ param. is_var_kind param.kind) (slice_get params number) false
 
--- what stands behind `&` or `*` in a meaning is a variable
+-- what follows `&` or `*` in a meaning is a variable
 abbrev pub term_has_kinds : List Param → MeaningTerm → Bool
 term_has_kinds params (Plain base) = true
 term_has_kinds params (AnAddress param) = is_var params param
@@ -46,7 +46,7 @@ atom_has_kinds params (IsNumber t) = term_has_kinds params t
 atom_has_kinds params (IsPointer t) = term_has_kinds params t
 atom_has_kinds params (Unaliased param) = is_var params param
 
--- what stands to the left of `:=`, behind `&` or `*` or in `entry` is a variable
+-- what stands to the left of `:=`, after `&` or `*` or in `entry` is a variable
 abbrev pub form_has_kinds : List Param → Form → Bool
 form_has_kinds params (Entry param) = is_var params param
 form_has_kinds params Goto = true

@@ -1,4 +1,5 @@
 pub mod Params
+pub mod Keywords
 pub mod Words
 pub mod Operands
 pub mod Numbers

@@ -1,4 +1,4 @@
--- Each metavariable of a rule is named behind its declaration.
+-- Each metavariable of a rule is used after its declaration.
 use Rattle.std.specs.Prelude.{ℕ, Bool, ◌||◌, List}
 use Rattle.std.specs.List.{list_any}
 use Rattle.rh_rule.specs.declared.rule.RuleBase.{RuleBase}

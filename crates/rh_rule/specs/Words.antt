@@ -1,34 +1,16 @@
 -- The names that a rule file may have.
-use Rattle.std.specs.Prelude.{ℕ, Bool, not, ◌&&◌, List, [], ◌∷◌, codes}
-use Rattle.std.specs.List.{list_any, list_all}
-use Rattle.std.specs.Str.{bytes_eq}
+use Rattle.std.specs.Prelude.{ℕ, Bool, ◌&&◌, List}
+use Rattle.std.specs.List.{list_all}
+use Rattle.std.specs.Option.{is_none}
 use Rattle.rh_il.specs.Name.{is_lower_name, is_upper_name}
+use Rattle.rh_rule.specs.Keywords.{keyword_of}
 use Rattle.rh_rule.specs.declared.schema.Param.{Param}
 use Rattle.rh_rule.specs.declared.schema.Schema.{Schema}
 use Rattle.rh_rule.specs.declared.rule.Rule.{Rule}
 
--- the words of facts that are no names
-abbrev pub fact_words : List (List ℕ)
-fact_words =
-    codes "rhodium" ∷ codes "fact" ∷ codes "var" ∷ codes "const" ∷ codes "means" ∷ codes "and" ∷ codes "number" ∷ codes "pointer" ∷ codes "unaliased" ∷ []
-
--- those that stand round the statements of rules
-abbrev pub rule_words : List (List ℕ)
-rule_words =
-    codes "rule" ∷ codes "when" ∷ codes "in" ∷ codes "out" ∷ codes "then" ∷ codes "else" ∷ codes "transform" ∷ []
-
--- those of statements
-abbrev pub form_words : List (List ℕ)
-form_words =
-    codes "entry" ∷ codes "goto" ∷ codes "skip" ∷ codes "if" ∷ codes "return" ∷ codes "new" ∷ codes "call" ∷ []
-
-abbrev pub is_among : List (List ℕ) → List ℕ → Bool
-is_among words name = list_any (bytes_eq name) words
-
--- a name that begins with a small letter and is none of those words
+-- a name that begins with a small letter and is no reserved word
 abbrev pub is_proper : List ℕ → Bool
-is_proper name =
-    is_lower_name name && (not (is_among fact_words name) && (not (is_among rule_words name) && not (is_among form_words name)))
+is_proper name = is_lower_name name && is_none (keyword_of name)
 
 -- parameters and metavariables begin with a capital letter
 abbrev pub are_proper_params : List Param → Bool

@@ -3,6 +3,7 @@
 ghost use Rattle.std.specs.Prelude.{◌≡◌, ◌<◌, ◌^◌, length, slice_get};
 ghost use Rattle.std.specs.List.{list_any};
 ghost use Rattle.std.specs.Option.{option_and_then};
+ghost use Rattle.std.specs.Result.{result_err};
 ghost use Rattle.std.specs.Str.{bytes_eq};
 ghost use Rattle.rh_il.specs.Checks.{first_some};
 ghost use Rattle.rh_rule.specs.declared.fault.RuleWrong.TheVariants.{DuplicateName};
@@ -35,14 +36,14 @@ const MOST_PREMISES: usize = 8;
 /// The most side conditions of a rule.
 const MOST_SIDES: usize = 8;
 
-/// The fault, if a test fails.
-fn unless(holds: bool, kind: RuleWrong, item: Item) -> Option<RuleFault>
-    ensures { result ≡ unless holds kind item }
+/// Fails unless the test holds.
+fn ensure(holds: bool, kind: RuleWrong, item: Item) -> Result<(), RuleFault>
+    ensures { result_err result ≡ unless holds kind item }
 {
     if holds {
-        None
+        Ok(())
     } else {
-        Some(RuleFault::Wrong { kind, item })
+        Err(RuleFault::Wrong { kind, item })
     }
 }
 
@@ -61,122 +62,77 @@ fn is_new_param_at(params: &[Param], place: usize) -> bool
     !has_param(&params[..place], name.bytes())
 }
 
-/// The fault of parameters of which two have one name.
-fn params_fault(params: &[Param], item: Item) -> Option<RuleFault>
-    ensures { result ≡ params_fault params.now item }
+/// Fails where two parameters have one name.
+fn check_params(params: &[Param], item: Item) -> Result<(), RuleFault>
+    ensures { result_err result ≡ params_fault params.now item }
 {
     for place in 0..params.len() {
         let is_new = is_new_param_at(params, place);
-        let fault = unless(is_new, RuleWrong::DuplicateName, item);
-        if fault.is_some() {
-            return fault;
-        }
+        ensure(is_new, RuleWrong::DuplicateName, item)?;
     }
-    None
+    Ok(())
 }
 
-/// The first fault of a schema.
+/// The checks of one schema, in their order.
 #[tactic(auto, unfolding(crate::specs::Checks::schema_fault))]
-fn schema_fault(number: u32, schema: &Schema) -> Option<RuleFault>
-    ensures { result ≡ schema_fault number schema.now }
+fn check_schema(number: u32, schema: &Schema) -> Result<(), RuleFault>
+    ensures { result_err result ≡ schema_fault number schema.now }
 {
     let item = Item::Fact(number);
     let params = schema.params.as_slice();
     let meaning = schema.meaning.as_slice();
     let fits = 1 <= params.len() && params.len() <= MOST_PARAMS;
-    let fault = unless(fits, RuleWrong::Limit(Many::Params), item);
-    if fault.is_some() {
-        return fault;
-    }
-    let fault = params_fault(params, item);
-    if fault.is_some() {
-        return fault;
-    }
+    ensure(fits, RuleWrong::Limit(Many::Params), item)?;
+    check_params(params, item)?;
     let fits = 1 <= meaning.len() && meaning.len() <= MOST_ATOMS;
-    let fault = unless(fits, RuleWrong::Limit(Many::Atoms), item);
-    if fault.is_some() {
-        return fault;
-    }
+    ensure(fits, RuleWrong::Limit(Many::Atoms), item)?;
     let are_below = atoms_are_below(params.len(), meaning);
-    let fault = unless(are_below, RuleWrong::BadNumber, item);
-    if fault.is_some() {
-        return fault;
-    }
-    unless(
+    ensure(are_below, RuleWrong::BadNumber, item)?;
+    ensure(
         atoms_have_kinds(params, meaning),
         RuleWrong::KindMismatch,
         item,
     )
 }
 
-/// The first of the parts of a rule of which there are too many, or two have one name.
-fn sizes_fault(number: u32, rule: &Rule) -> Option<RuleFault>
-    ensures { result ≡ sizes_fault number rule.now }
+/// Fails where there is too much of a part of a rule, or two metavariables have one name.
+fn check_sizes(number: u32, rule: &Rule) -> Result<(), RuleFault>
+    ensures { result_err result ≡ sizes_fault number rule.now }
 {
     let item = Item::Rule(number);
     let fits = rule.params.len() <= MOST_PARAMS;
-    let fault = unless(fits, RuleWrong::Limit(Many::Params), item);
-    if fault.is_some() {
-        return fault;
-    }
-    let fault = params_fault(rule.params.as_slice(), item);
-    if fault.is_some() {
-        return fault;
-    }
+    ensure(fits, RuleWrong::Limit(Many::Params), item)?;
+    check_params(rule.params.as_slice(), item)?;
     let fits = rule.premises.len() <= MOST_PREMISES;
-    let fault = unless(fits, RuleWrong::Limit(Many::Premises), item);
-    if fault.is_some() {
-        return fault;
-    }
+    ensure(fits, RuleWrong::Limit(Many::Premises), item)?;
     let fits = rule.sides.len() <= MOST_SIDES;
-    unless(fits, RuleWrong::Limit(Many::Sides), item)
+    ensure(fits, RuleWrong::Limit(Many::Sides), item)
 }
 
-/// The fault of a rule that doesn't use all its metavariables.
-fn uses_fault(number: u32, rule: &Rule) -> Option<RuleFault>
-    ensures { result ≡ uses_fault number rule.now }
+/// Fails where the rule doesn't use all its metavariables.
+fn check_uses(number: u32, rule: &Rule) -> Result<(), RuleFault>
+    ensures { result_err result ≡ uses_fault number rule.now }
 {
     for meta in 0..rule.params.len() {
         let is_used = rule_names(meta, rule);
-        let fault = unless(is_used, RuleWrong::UnusedMeta, Item::Rule(number));
-        if fault.is_some() {
-            return fault;
-        }
+        ensure(is_used, RuleWrong::UnusedMeta, Item::Rule(number))?;
     }
-    None
+    Ok(())
 }
 
-/// The first fault of a rule.
+/// The checks of one rule, in their order.
 #[tactic(auto, unfolding(crate::specs::Checks::rule_fault))]
-fn rule_fault(schemas: &[Schema], number: u32, rule: &Rule) -> Option<RuleFault>
-    ensures { result ≡ rule_fault schemas.now number rule.now }
+fn check_rule(schemas: &[Schema], number: u32, rule: &Rule) -> Result<(), RuleFault>
+    ensures { result_err result ≡ rule_fault schemas.now number rule.now }
 {
     let item = Item::Rule(number);
-    let fault = sizes_fault(number, rule);
-    if fault.is_some() {
-        return fault;
-    }
-    let fault = unless(has_numbers(schemas.len(), rule), RuleWrong::BadNumber, item);
-    if fault.is_some() {
-        return fault;
-    }
-    let fault = unless(has_arity(schemas, rule), RuleWrong::Arity, item);
-    if fault.is_some() {
-        return fault;
-    }
-    let fault = unless(has_kinds(schemas, rule), RuleWrong::KindMismatch, item);
-    if fault.is_some() {
-        return fault;
-    }
-    let fault = unless(has_shape(rule), RuleWrong::BadShape, item);
-    if fault.is_some() {
-        return fault;
-    }
-    let fault = unless(has_slots(rule), RuleWrong::BadSlot, item);
-    if fault.is_some() {
-        return fault;
-    }
-    uses_fault(number, rule)
+    check_sizes(number, rule)?;
+    ensure(has_numbers(schemas.len(), rule), RuleWrong::BadNumber, item)?;
+    ensure(has_arity(schemas, rule), RuleWrong::Arity, item)?;
+    ensure(has_kinds(schemas, rule), RuleWrong::KindMismatch, item)?;
+    ensure(has_shape(rule), RuleWrong::BadShape, item)?;
+    ensure(has_slots(rule), RuleWrong::BadSlot, item)?;
+    check_uses(number, rule)
 }
 
 fn has_schema(schemas: &[Schema], name: &[u8]) -> bool
@@ -194,20 +150,17 @@ fn is_new_schema_at(schemas: &[Schema], place: usize) -> bool
     !has_schema(&schemas[..place], name.bytes())
 }
 
-/// The first schema whose name an earlier one has.
-fn schema_names_fault(schemas: &[Schema]) -> Option<RuleFault>
+/// Fails at the first schema whose name an earlier one has.
+fn check_schema_names(schemas: &[Schema]) -> Result<(), RuleFault>
     requires { length schemas.now < 2 ^ 32 }
-    ensures { result ≡ first_some (length schemas.now) (λ i. unless (is_new_schema_at schemas.now i) DuplicateName (FactItem i)) }
+    ensures { result_err result ≡ first_some (length schemas.now) (λ i. unless (is_new_schema_at schemas.now i) DuplicateName (FactItem i)) }
 {
     for number in 0..schemas.len() {
         let is_new = is_new_schema_at(schemas, number);
         let item = Item::Fact(number as u32);
-        let fault = unless(is_new, RuleWrong::DuplicateName, item);
-        if fault.is_some() {
-            return fault;
-        }
+        ensure(is_new, RuleWrong::DuplicateName, item)?;
     }
-    None
+    Ok(())
 }
 
 fn has_rule(rules: &[Rule], name: &[u8]) -> bool
@@ -225,76 +178,50 @@ fn is_new_rule_at(rules: &[Rule], place: usize) -> bool
     !has_rule(&rules[..place], name.bytes())
 }
 
-/// The first rule whose name an earlier one has.
-fn rule_names_fault(rules: &[Rule]) -> Option<RuleFault>
+/// Fails at the first rule whose name an earlier one has.
+fn check_rule_names(rules: &[Rule]) -> Result<(), RuleFault>
     requires { length rules.now < 2 ^ 32 }
-    ensures { result ≡ first_some (length rules.now) (λ i. unless (is_new_rule_at rules.now i) DuplicateName (RuleItem i)) }
+    ensures { result_err result ≡ first_some (length rules.now) (λ i. unless (is_new_rule_at rules.now i) DuplicateName (RuleItem i)) }
 {
     for number in 0..rules.len() {
         let is_new = is_new_rule_at(rules, number);
         let item = Item::Rule(number as u32);
-        let fault = unless(is_new, RuleWrong::DuplicateName, item);
-        if fault.is_some() {
-            return fault;
-        }
+        ensure(is_new, RuleWrong::DuplicateName, item)?;
     }
-    None
+    Ok(())
 }
 
-/// The first fault inside a schema.
-fn schemas_fault(schemas: &[Schema]) -> Option<RuleFault>
+fn check_schemas(schemas: &[Schema]) -> Result<(), RuleFault>
     requires { length schemas.now < 2 ^ 32 }
-    ensures { result ≡ first_some (length schemas.now) (λ i. option_and_then (schema_fault i) (slice_get schemas.now i)) }
+    ensures { result_err result ≡ first_some (length schemas.now) (λ i. option_and_then (schema_fault i) (slice_get schemas.now i)) }
 {
     for (number, schema) in schemas.iter().enumerate() {
-        let fault = schema_fault(number as u32, schema);
-        if fault.is_some() {
-            return fault;
-        }
+        check_schema(number as u32, schema)?;
     }
-    None
+    Ok(())
 }
 
-/// The first fault inside a rule.
-fn rules_fault(schemas: &[Schema], rules: &[Rule]) -> Option<RuleFault>
+fn check_rules(schemas: &[Schema], rules: &[Rule]) -> Result<(), RuleFault>
     requires { length rules.now < 2 ^ 32 }
-    ensures { result ≡ first_some (length rules.now) (λ i. option_and_then (rule_fault schemas.now i) (slice_get rules.now i)) }
+    ensures { result_err result ≡ first_some (length rules.now) (λ i. option_and_then (rule_fault schemas.now i) (slice_get rules.now i)) }
 {
     for (number, rule) in rules.iter().enumerate() {
-        let fault = rule_fault(schemas, number as u32, rule);
-        if fault.is_some() {
-            return fault;
-        }
+        check_rule(schemas, number as u32, rule)?;
     }
-    None
+    Ok(())
 }
 
-/// The first fault of the schemas and the rules of a file.
+/// The checks of the schemas and the rules of a file, in their order.
 #[tactic(auto, unfolding(crate::specs::Checks::file_fault))]
-pub(crate) fn file_fault(schemas: &[Schema], rules: &[Rule]) -> Option<RuleFault>
-    ensures { result ≡ file_fault schemas.now rules.now }
+pub(crate) fn check_file(schemas: &[Schema], rules: &[Rule]) -> Result<(), RuleFault>
+    ensures { result_err result ≡ file_fault schemas.now rules.now }
 {
     let fits = schemas.len() <= MOST_SCHEMAS;
-    let fault = unless(fits, RuleWrong::Limit(Many::Facts), Item::File);
-    if fault.is_some() {
-        return fault;
-    }
+    ensure(fits, RuleWrong::Limit(Many::Facts), Item::File)?;
     let fits = rules.len() <= MOST_RULES;
-    let fault = unless(fits, RuleWrong::Limit(Many::Rules), Item::File);
-    if fault.is_some() {
-        return fault;
-    }
-    let fault = schema_names_fault(schemas);
-    if fault.is_some() {
-        return fault;
-    }
-    let fault = rule_names_fault(rules);
-    if fault.is_some() {
-        return fault;
-    }
-    let fault = schemas_fault(schemas);
-    if fault.is_some() {
-        return fault;
-    }
-    rules_fault(schemas, rules)
+    ensure(fits, RuleWrong::Limit(Many::Rules), Item::File)?;
+    check_schema_names(schemas)?;
+    check_rule_names(rules)?;
+    check_schemas(schemas)?;
+    check_rules(schemas, rules)
 }

@@ -1,4 +1,4 @@
-//! Rules: from facts before a statement to a fact behind it, or to another statement.
+//! Rules: from facts before a statement to a fact after it, or to another statement.
 use crate::schema::Param;
 use rh_il::{Name, Op, Slot};
 use rh_list::Items;

@@ -2,7 +2,7 @@
 
 ghost use Rattle.std.specs.Prelude.{◌≡◌, IfOk};
 
-use crate::check::file_fault;
+use crate::check::check_file;
 use crate::fault::RuleFault;
 use crate::rule::{Conclusion, FactUse, Rule};
 use crate::schema::Schema;
@@ -41,13 +41,11 @@ impl RuleFile {
         ensures passes { IfOk result (λ file. file_fault schemas.items rules.items ≡ None) }
         ensures fault { IfErr result (λ fault. file_fault schemas.items rules.items ≡ Some fault) }
     {
-        match file_fault(schemas.as_slice(), rules.as_slice()) {
-            Some(fault) => Err(fault),
-            None => Ok(RuleFile {
-                schemas: Items::from(schemas),
-                rules: Items::from(rules),
-            }),
-        }
+        check_file(schemas.as_slice(), rules.as_slice())?;
+        Ok(RuleFile {
+            schemas: Items::from(schemas),
+            rules: Items::from(rules),
+        })
     }
 
     /// The schemas, in their order.

@@ -3,13 +3,13 @@
 ghost use Rattle.std.specs.Prelude.{◌≡◌};
 ghost use Rattle.std.specs.List.{list_all};
 ghost use Rattle.rh_rule.specs.Operands.{operands, is_wild};
-ghost use Rattle.rh_rule.specs.Shapes.{has_wild, is_pattern, is_statement, class_of, class_eq, may_replace, fact_has_shape, conclusion_has_shape, has_shape, is_entry, leaves_by, conclusion_has_slot, has_slots};
+ghost use Rattle.rh_rule.specs.Shapes.{has_wild, is_pattern, is_statement, class_of, may_replace, fact_has_shape, conclusion_has_shape, has_shape, is_entry, leaves_by, conclusion_has_slot, has_slots};
 
 use crate::rule::{Conclusion, FactUse, Form, Rule, RuleBase};
 use rh_il::Slot;
 
 /// What a statement does beside its effect: a template keeps it.
-#[derive(Clone, Copy)]
+#[derive(Clone, Copy, PartialEq, Eq)]
 pub(crate) enum Class {
     Plain,
     Calls,
@@ -81,24 +81,10 @@ fn class_of(form: Form) -> Class
     }
 }
 
-fn class_eq(a: Class, b: Class) -> bool
-    ensures { result ≡ class_eq a b }
-{
-    matches!(
-        (a, b),
-        (Class::Plain, Class::Plain)
-            | (Class::Calls, Class::Calls)
-            | (Class::Branches, Class::Branches)
-            | (Class::Returns, Class::Returns)
-    )
-}
-
 fn may_replace(template: Form, pattern: Form) -> bool
     ensures { result ≡ may_replace template pattern }
 {
-    is_statement(pattern)
-        && is_statement(template)
-        && class_eq(class_of(template), class_of(pattern))
+    is_statement(pattern) && is_statement(template) && class_of(template) == class_of(pattern)
 }
 
 fn fact_has_shape(fact: &FactUse) -> bool

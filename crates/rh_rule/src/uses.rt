@@ -96,7 +96,7 @@ fn conclusion_names(meta: usize, conclusion: &Conclusion) -> bool
     }
 }
 
-/// Whether a rule names a metavariable behind its declaration.
+/// Whether a rule uses a metavariable after its declaration.
 pub(crate) fn rule_names(meta: usize, rule: &Rule) -> bool
     ensures { result ≡ rule_names meta rule.now }
 {

@@ -3,49 +3,12 @@
 ghost use Rattle.std.specs.Prelude.{◌≡◌};
 ghost use Rattle.std.specs.List.{list_all};
 ghost use Rattle.rh_il.specs.Name.{is_lower_name, is_upper_name};
-ghost use Rattle.rh_rule.specs.Words.{fact_words, rule_words, form_words, is_among, is_proper, are_proper_params, schema_is_proper, rule_is_proper, are_proper};
+ghost use Rattle.rh_rule.specs.Words.{is_proper, are_proper_params, schema_is_proper, rule_is_proper, are_proper};
 
+use crate::keyword::keyword_of;
 use crate::rule::Rule;
 use crate::schema::{Param, Schema};
 use rh_il::Name;
-
-fn is_fact_word(word: &[u8]) -> bool
-    ensures { result ≡ is_among fact_words word.now }
-{
-    word == b"rhodium".as_slice()
-        || word == b"fact".as_slice()
-        || word == b"var".as_slice()
-        || word == b"const".as_slice()
-        || word == b"means".as_slice()
-        || word == b"and".as_slice()
-        || word == b"number".as_slice()
-        || word == b"pointer".as_slice()
-        || word == b"unaliased".as_slice()
-}
-
-fn is_rule_word(word: &[u8]) -> bool
-    ensures { result ≡ is_among rule_words word.now }
-{
-    word == b"rule".as_slice()
-        || word == b"when".as_slice()
-        || word == b"in".as_slice()
-        || word == b"out".as_slice()
-        || word == b"then".as_slice()
-        || word == b"else".as_slice()
-        || word == b"transform".as_slice()
-}
-
-fn is_form_word(word: &[u8]) -> bool
-    ensures { result ≡ is_among form_words word.now }
-{
-    word == b"entry".as_slice()
-        || word == b"goto".as_slice()
-        || word == b"skip".as_slice()
-        || word == b"if".as_slice()
-        || word == b"return".as_slice()
-        || word == b"new".as_slice()
-        || word == b"call".as_slice()
-}
 
 fn is_lower_name(name: &Name) -> bool
     ensures { result ≡ is_lower_name name.now }
@@ -66,13 +29,12 @@ pub fn is_upper_name(name: &Name) -> bool
     }
 }
 
-/// Whether a schema or a rule may have the name: it begins with a small letter and is none of the
-/// words of rule files.
+/// Whether a schema or a rule may have the name: it begins with a small letter and is no
+/// reserved word.
 pub fn is_proper(name: &Name) -> bool
     ensures { result ≡ is_proper name.now }
 {
-    let word = name.bytes();
-    is_lower_name(name) && !is_fact_word(word) && !is_rule_word(word) && !is_form_word(word)
+    is_lower_name(name) && keyword_of(name.bytes()).is_none()
 }
 
 fn are_proper_params(params: &[Param]) -> bool

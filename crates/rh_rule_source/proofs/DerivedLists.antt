@@ -24,7 +24,7 @@ between_class : (between : ℕ) → nat_lt between LOWER ≡ true → class_of (
 between_class between is = ap (λ b. cond b between 255) is
 
 module _ {T : Type 0} (InRange : T → Type 0) (words : T → List Word) where
-  -- the items behind the first one
+  -- the items after the first one
   others_derived : (part others between more : ℕ) → IsSeparated part others between more → DerivesEach part InRange words → (xs : List T) (symbols : List Symbol) (rest : List Word) → AllByRecursion InRange xs → Derived symbols rest → Derived (Rule others ∷ symbols) (flat_map (λ y. Fixed between ∷ words y) xs ++ rest)
   others_derived part others between more is each [] symbols rest all d = by (more + 1) is.none_more d
   others_derived part others between more is each (x ∷ xs) symbols rest all d =

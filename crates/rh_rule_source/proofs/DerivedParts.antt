@@ -1,4 +1,4 @@
--- The words of the parts of a source are derived, whatever comes behind them.
+-- The words of the parts of a source are derived, whatever comes after them.
 use Rattle.std.proofs.Common.{◌≡◌, ℕ, ◌<◌, ◌^◌, Bool, true, false, cond, List, ◌∷◌, ◌++◌, map, Some, refl, sym, subst, arith, append_assoc}
 use Rattle.std.specs.Prelude.{slice_get, ◌==◌}
 use Rattle.std.proofs.lemmas.Bool.{ne_eqb}

@@ -35,7 +35,7 @@ op_begins Equal ws = refl
 true_or_false : (b : Bool) → b ≡ true → b ≡ false → ⊥
 true_or_false b yes_ no_ = absurd cc
 
--- an operand alone, and one with an operator behind
+-- an operand alone, and one with an operator after
 alone : (base : SourceBase) (o : SourceOperation) (r s : List Word) → NoOperator r → base_words base ++ r ≡ (base_words o.left ++ op_word o.op ∷ base_words o.right) ++ s → ⊥
 alone base o r s none e =
     let behind = op_word o.op ∷ (base_words o.right ++ s) in

@@ -7,16 +7,16 @@ use Rattle.rh_rule_source.specs.declared.word.Spelled.{Spelled}
 use Rattle.rh_rule_source.specs.Grammar.{OPEN_PAREN, CLOSE_PAREN, LOWER, UPPER, NUMBER}
 use Rattle.rh_rule_source.specs.Source.{separated}
 
--- the values are the same, and so is what stands behind them
+-- the values are the same, and so is what stands after them
 pub record Same {T : Type 0} (a b : T) (r s : List Word) : Type 0 where
   pub value : a ≡ b
   pub rest : r ≡ s
 
--- one value and one rest, whatever stands behind
+-- one value and one rest, whatever stands after
 abbrev pub OneWay : {T : Type 0} → (T → List Word) → Type 0
 OneWay {T = T} words = (a b : T) (r s : List Word) → words a ++ r ≡ words b ++ s → Same a b r s
 
--- one value and one rest, where what stands behind is of a kind
+-- one value and one rest, where what stands after is of a kind
 abbrev pub OneWayBefore : {T : Type 0} → (List Word → Type 0) → (T → List Word) → Type 0
 OneWayBefore {T = T} Behind words = (a b : T) (r s : List Word) → Behind r → Behind s → words a ++ r ≡ words b ++ s → Same a b r s
 

@@ -19,7 +19,7 @@ abbrev pub Reads : {T : Type 0} → List Symbol → (T → List Word) → Cursor
 Reads symbols spell old new value =
     (rest : List Symbol) → Left (symbols ++ rest) old → (old.words.now ≡ spell value ++ new.words.now) × Left rest new
 
--- wherever more parts come next, they are read and stand behind those that were there
+-- wherever more parts come next, they are read and stand after those that were there
 abbrev pub ReadsMore : {T : Type 0} → ℕ → (T → List Word) → List T → Cursor → Cursor → List T → Type 0
 ReadsMore others words parts old new all =
     (rest : List Symbol) → Left (Rule others ∷ rest) old → (flat_map words parts ++ old.words.now ≡ flat_map words all ++ new.words.now) × Left rest new

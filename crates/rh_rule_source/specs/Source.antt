@@ -116,7 +116,7 @@ abbrev pub fact_words : SourceFact → List Word
 fact_words f =
     Fixed FACT ∷ Lower f.name ∷ Fixed OPEN_PAREN ∷ (params_words f.params ++ Fixed CLOSE_PAREN ∷ Fixed MEANS ∷ (atoms_words f.atoms ++ Fixed SEMICOLON ∷ []))
 
--- what may stand behind an operand to the right of `:=`
+-- what may stand after an operand to the right of `:=`
 abbrev pub operation_rest : Option (Op × SourceBase) → List Word
 operation_rest None = []
 operation_rest (Some operation) = op_word operation.0 ∷ base_words operation.1
@@ -163,7 +163,7 @@ cond_words (Side left relation right) = side_words left ++ relation_word relatio
 abbrev pub conds_words : List SourceCond → List Word
 conds_words conds = separated cond_words (Fixed COMMA) conds
 
--- the conditions behind `when`, which is left out where there is none
+-- the conditions after `when`, which is left out where there is none
 abbrev pub when_words : List SourceCond → List Word
 when_words [] = []
 when_words (first ∷ others) = Fixed WHEN ∷ conds_words (first ∷ others)

@@ -1,13 +1,15 @@
 -- What the tokens of a rule file say.
-use Rattle.std.specs.Prelude.{ℕ, ◌^◌, ◌==◌, nat_lt, List, Option, Some, None, if◌then◌else◌, codes, unwrap_or}
-use Rattle.std.specs.Option.{option_or}
-use Rattle.std.specs.Str.{bytes_eq}
+use Rattle.std.specs.Prelude.{ℕ, ◌^◌, ◌==◌, nat_lt, List, Option, if◌then◌else◌, unwrap_or}
+use Rattle.std.specs.Option.{option_map}
 use Rattle.rh_text.specs.declared.token.TokenKind.{TokenKind}
 use Rattle.rh_text.specs.declared.token.TokenKind.TheVariants.{Lower as LowerKind, Upper as UpperKind, Number as NumberKind, Sign as SignKind}
 use Rattle.rh_text.specs.declared.token.Token.{Token}
 use Rattle.rh_text.specs.Words.{spelling, sign_number}
 use Rattle.rh_text.specs.Pieces.{decimal_value}
 use Rattle.rh_il.specs.Name.{is_upper_name}
+use Rattle.rh_rule.specs.declared.keyword.RuleKeyword.{RuleKeyword}
+use Rattle.rh_rule.specs.declared.keyword.RuleKeyword.TheVariants.{Rhodium as RhodiumWord, Fact as FactWord, Var as VarWord, Const as ConstWord, Means as MeansWord, And as AndWord, Number as NumberWord, Pointer as PointerWord, Unaliased as UnaliasedWord, Rule as RuleWord, When as WhenWord, In as InWord, Out as OutWord, Then as ThenWord, Else as ElseWord, Transform as TransformWord, Entry as EntryWord, Goto as GotoWord, Skip as SkipWord, If as IfWord, Return as ReturnWord, New as NewWord, Call as CallWord}
+use Rattle.rh_rule.specs.Keywords.{keyword_of}
 use Rattle.rh_rule.specs.Words.{is_proper}
 use Rattle.rh_rule_source.specs.declared.word.Word.{Word}
 use Rattle.rh_rule_source.specs.declared.word.Word.TheVariants.{Fixed, Lower, Upper, Number}
@@ -24,47 +26,38 @@ class_of (Lower name) = LOWER
 class_of (Upper name) = UPPER
 class_of (Number n) = number_class n
 
--- the class of a word of facts
-abbrev pub fact_word : List ℕ → Option ℕ
-fact_word bytes =
-    if bytes_eq bytes (codes "rhodium") then Some RHODIUM else
-    (if bytes_eq bytes (codes "fact") then Some FACT else
-    (if bytes_eq bytes (codes "var") then Some VAR else
-    (if bytes_eq bytes (codes "const") then Some CONST else
-    (if bytes_eq bytes (codes "means") then Some MEANS else
-    (if bytes_eq bytes (codes "and") then Some AND else
-    (if bytes_eq bytes (codes "number") then Some NUMBER_OF else
-    (if bytes_eq bytes (codes "pointer") then Some POINTER else
-    (if bytes_eq bytes (codes "unaliased") then Some UNALIASED else None))))))))
+-- the class of a reserved word
+abbrev pub keyword_class : RuleKeyword → ℕ
+keyword_class RhodiumWord = RHODIUM
+keyword_class FactWord = FACT
+keyword_class VarWord = VAR
+keyword_class ConstWord = CONST
+keyword_class MeansWord = MEANS
+keyword_class AndWord = AND
+keyword_class NumberWord = NUMBER_OF
+keyword_class PointerWord = POINTER
+keyword_class UnaliasedWord = UNALIASED
+keyword_class RuleWord = RULE
+keyword_class WhenWord = WHEN
+keyword_class InWord = IN
+keyword_class OutWord = OUT
+keyword_class ThenWord = THEN
+keyword_class ElseWord = ELSE
+keyword_class TransformWord = TRANSFORM
+keyword_class EntryWord = ENTRY
+keyword_class GotoWord = GOTO
+keyword_class SkipWord = SKIP
+keyword_class IfWord = IF
+keyword_class ReturnWord = RETURN
+keyword_class NewWord = NEW
+keyword_class CallWord = CALL
 
--- the class of a word that stands round the statements of rules
-abbrev pub rule_word : List ℕ → Option ℕ
-rule_word bytes =
-    if bytes_eq bytes (codes "rule") then Some RULE else
-    (if bytes_eq bytes (codes "when") then Some WHEN else
-    (if bytes_eq bytes (codes "in") then Some IN else
-    (if bytes_eq bytes (codes "out") then Some OUT else
-    (if bytes_eq bytes (codes "then") then Some THEN else
-    (if bytes_eq bytes (codes "else") then Some ELSE else
-    (if bytes_eq bytes (codes "transform") then Some TRANSFORM else None))))))
-
--- the class of a word of statements
-abbrev pub form_word : List ℕ → Option ℕ
-form_word bytes =
-    if bytes_eq bytes (codes "entry") then Some ENTRY else
-    (if bytes_eq bytes (codes "goto") then Some GOTO else
-    (if bytes_eq bytes (codes "skip") then Some SKIP else
-    (if bytes_eq bytes (codes "if") then Some IF else
-    (if bytes_eq bytes (codes "return") then Some RETURN else
-    (if bytes_eq bytes (codes "new") then Some NEW else
-    (if bytes_eq bytes (codes "call") then Some CALL else None))))))
-
--- the class of a word of the grammar
+-- the class of a word, if it is reserved
 abbrev pub word_class : List ℕ → Option ℕ
-word_class bytes = option_or (fact_word bytes) (option_or (rule_word bytes) (form_word bytes))
+word_class bytes = option_map keyword_class (keyword_of bytes)
 
--- What a name says at an offset: a name with a capital letter, the name of a fact or a rule, or a word of
--- the grammar, which is no such name.
+-- What a name says at an offset: a name with a capital letter, the name of a fact or a rule, or a reserved
+-- word.
 abbrev pub name_word : List ℕ → ℕ → Word
 name_word bytes at =
     if is_upper_name bytes then Upper (record { name = bytes; at = at })

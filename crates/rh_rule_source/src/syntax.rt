@@ -36,8 +36,8 @@ fn source_by(alloc: Global, taken: &[u8], words: &[Word]) -> Result<SourceFile, 
     cursor.file(alloc)
 }
 
-/// The source that words spell, or the place of the word at which they stop to begin a rule file: the
-/// number of words, where all of them begin one and are none.
+/// The source that words spell, or the place of the first word that cannot continue a rule file: the
+/// number of words, where they end too early.
 pub fn source_of(alloc: Global, words: &[Word]) -> Result<SourceFile, ParseFault>
     ensures source { IfOk result (AreOf words.now) }
     ensures fault { IfErr result (FaultsAs productions file (map class_of words.now)) }

@@ -3,11 +3,11 @@
 ghost use Rattle.std.specs.Prelude.{◌≡◌, map, IfOk};
 ghost use Rattle.std.specs.List.{All};
 ghost use Rattle.rh_text.specs.Words.{IsTokenOf};
-ghost use Rattle.rh_rule_source.specs.Words.{class_of, number_class, fact_word, rule_word, form_word, word_class, name_word, word_of};
+ghost use Rattle.rh_rule_source.specs.Words.{class_of, number_class, keyword_class, word_class, name_word, word_of};
 
 use crate::grammar::class;
 use rh_il::Name;
-use rh_rule::{is_proper, is_upper_name};
+use rh_rule::{RuleKeyword, is_proper, is_upper_name, keyword_of};
 use rh_text::{Token, TokenKind};
 use std::alloc::{AllocError, Global};
 
@@ -29,7 +29,7 @@ impl Spelled {
 /// What a token says.
 #[derive(Clone, Copy)]
 pub enum Word {
-    /// A sign or a word of the grammar, by its class.
+    /// A sign or a reserved word, by its class.
     Fixed(u8),
     Lower(Spelled),
     Upper(Spelled),
@@ -61,88 +61,45 @@ impl Word {
     }
 }
 
-/// The class of a word of facts.
-fn fact_word(word: &[u8]) -> Option<u8>
-    ensures { result ≡ fact_word word.now }
+/// The class of a reserved word.
+fn keyword_class(keyword: RuleKeyword) -> u8
+    ensures { result ≡ keyword_class keyword }
 {
-    if word == b"rhodium".as_slice() {
-        Some(class::RHODIUM)
-    } else if word == b"fact".as_slice() {
-        Some(class::FACT)
-    } else if word == b"var".as_slice() {
-        Some(class::VAR)
-    } else if word == b"const".as_slice() {
-        Some(class::CONST)
-    } else if word == b"means".as_slice() {
-        Some(class::MEANS)
-    } else if word == b"and".as_slice() {
-        Some(class::AND)
-    } else if word == b"number".as_slice() {
-        Some(class::NUMBER_OF)
-    } else if word == b"pointer".as_slice() {
-        Some(class::POINTER)
-    } else if word == b"unaliased".as_slice() {
-        Some(class::UNALIASED)
-    } else {
-        None
+    match keyword {
+        RuleKeyword::Rhodium => class::RHODIUM,
+        RuleKeyword::Fact => class::FACT,
+        RuleKeyword::Var => class::VAR,
+        RuleKeyword::Const => class::CONST,
+        RuleKeyword::Means => class::MEANS,
+        RuleKeyword::And => class::AND,
+        RuleKeyword::Number => class::NUMBER_OF,
+        RuleKeyword::Pointer => class::POINTER,
+        RuleKeyword::Unaliased => class::UNALIASED,
+        RuleKeyword::Rule => class::RULE,
+        RuleKeyword::When => class::WHEN,
+        RuleKeyword::In => class::IN,
+        RuleKeyword::Out => class::OUT,
+        RuleKeyword::Then => class::THEN,
+        RuleKeyword::Else => class::ELSE,
+        RuleKeyword::Transform => class::TRANSFORM,
+        RuleKeyword::Entry => class::ENTRY,
+        RuleKeyword::Goto => class::GOTO,
+        RuleKeyword::Skip => class::SKIP,
+        RuleKeyword::If => class::IF,
+        RuleKeyword::Return => class::RETURN,
+        RuleKeyword::New => class::NEW,
+        RuleKeyword::Call => class::CALL,
     }
 }
 
-/// The class of a word that stands round the statements of rules.
-fn rule_word(word: &[u8]) -> Option<u8>
-    ensures { result ≡ rule_word word.now }
-{
-    if word == b"rule".as_slice() {
-        Some(class::RULE)
-    } else if word == b"when".as_slice() {
-        Some(class::WHEN)
-    } else if word == b"in".as_slice() {
-        Some(class::IN)
-    } else if word == b"out".as_slice() {
-        Some(class::OUT)
-    } else if word == b"then".as_slice() {
-        Some(class::THEN)
-    } else if word == b"else".as_slice() {
-        Some(class::ELSE)
-    } else if word == b"transform".as_slice() {
-        Some(class::TRANSFORM)
-    } else {
-        None
-    }
-}
-
-/// The class of a word of statements.
-fn form_word(word: &[u8]) -> Option<u8>
-    ensures { result ≡ form_word word.now }
-{
-    if word == b"entry".as_slice() {
-        Some(class::ENTRY)
-    } else if word == b"goto".as_slice() {
-        Some(class::GOTO)
-    } else if word == b"skip".as_slice() {
-        Some(class::SKIP)
-    } else if word == b"if".as_slice() {
-        Some(class::IF)
-    } else if word == b"return".as_slice() {
-        Some(class::RETURN)
-    } else if word == b"new".as_slice() {
-        Some(class::NEW)
-    } else if word == b"call".as_slice() {
-        Some(class::CALL)
-    } else {
-        None
-    }
-}
-
-/// The class of a word of the grammar.
+/// The class of a word, if it is reserved.
 fn word_class(word: &[u8]) -> Option<u8>
     ensures { result ≡ word_class word.now }
 {
-    fact_word(word).or(rule_word(word).or(form_word(word)))
+    Some(keyword_class(keyword_of(word)?))
 }
 
-/// What a name says: it is a word of the grammar, if it may not be the name of a fact, a rule or a
-/// metavariable.
+/// What a name says: it is reserved, if it may not be the name of a fact, a rule or a metavariable.
 fn name_word(bytes: &[u8], at: u32) -> Word
     ensures { result ≡ name_word bytes.now at }
 {

@@ -9,7 +9,7 @@ use Rattle.std.specs.Option.{option_map_or}
 use Rattle.std.specs.Str.{bytes_eq}
 use Rattle.rh_il.specs.Checks.{first_some}
 use Rattle.rh_il.proofs.Passed.{none_at, none_parts}
-use Rattle.rh_il_text.proofs.IndexSteps.{is_some_position}
+use Rattle.rh_names.proofs.IndexSteps.{is_some_position}
 use Rattle.rh_rule.specs.declared.schema.Param.{Param}
 use Rattle.rh_rule.specs.declared.schema.Schema.{Schema}
 use Rattle.rh_rule.specs.declared.rule.Rule.{Rule}

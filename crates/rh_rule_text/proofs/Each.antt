@@ -1,33 +1,18 @@
--- What holds of each item of a list, and of the one at a place.
+-- What holds of each item of a list.
 use Rattle.std.proofs.Common.{◌≡◌, ℕ, zero, suc, ◌<◌, ◌≤◌, Bool, true, false, not, List, [], ◌∷◌, length, map, Some, refl, sym, ap, subst, arith}
 use Rattle.std.proofs.lemmas.Bool.{and_parts, or_parts}
 use Rattle.std.specs.Prelude.{slice_get}
 use Rattle.std.specs.List.{list_all, list_any, AllByRecursion}
-use Rattle.std.specs.Option.{option_map_or}
 use Rattle.rh_rule_source.proofs.SourceInRange.{IsFilled}
 
 pub not_true : (t : Bool) → not t ≡ true → t ≡ false
 not_true true h = sym h
 not_true false h = refl
 
--- ---- the item at a place
-
--- what is below the length of a list is read of it
-pub read_at : {X : Type 0} (xs : List X) (i : ℕ) → i < length xs → (x : X) × (slice_get xs i ≡ Some x)
-read_at [] i below = absurd (omega arith)
-read_at (x ∷ xs) zero below = (x, refl)
-read_at (x ∷ xs) (suc i) below = read_at xs i (omega arith)
-
 -- what every item that is read of a list has, all items have
 pub each_has : {X : Type 0} (P : X → Type 0) (xs : List X) → ((i : ℕ) (x : X) → slice_get xs i ≡ Some x → P x) → AllByRecursion P xs
 each_has P [] has = tt
 each_has P (x ∷ xs) has = (has 0 x refl, each_has P xs (λ i y read. has (suc i) y read))
-
--- what all items have, the one at a place has
-pub has_at : {X : Type 0} (P : X → Type 0) (xs : List X) (i : ℕ) (x : X) → AllByRecursion P xs → slice_get xs i ≡ Some x → P x
-has_at P [] i x all read = absurd cc
-has_at P (y ∷ ys) zero x all read = let same : y ≡ x = ap (λ o. option_map_or (λ z. z) o y) read in subst P same all.0
-has_at P (y ∷ ys) (suc i) x all read = has_at P ys i x all.1 read
 
 -- ---- tests
 
@@ -35,10 +20,6 @@ has_at P (y ∷ ys) (suc i) x all read = has_at P ys i x all.1 read
 pub each_passes : {X : Type 0} (test : X → Bool) (xs : List X) → list_all test xs ≡ true → AllByRecursion (λ x. test x ≡ true) xs
 each_passes test [] all = tt
 each_passes test (x ∷ xs) all = let parts = and_parts (test x) (list_all test xs) all in (parts.0, each_passes test xs parts.1)
-
--- and of the one at a place
-pub passes_at : {X : Type 0} (test : X → Bool) (xs : List X) (i : ℕ) (x : X) → list_all test xs ≡ true → slice_get xs i ≡ Some x → test x ≡ true
-passes_at test xs i x all read = has_at (λ x. test x ≡ true) xs i x (each_passes test xs all) read
 
 -- what a test that no item passes tells of each of them
 pub each_fails : {X : Type 0} (test : X → Bool) (xs : List X) → list_any test xs ≡ false → AllByRecursion (λ x. test x ≡ false) xs

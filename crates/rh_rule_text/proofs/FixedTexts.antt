@@ -12,7 +12,7 @@ use Rattle.rh_il.specs.declared.value.Op.{Op}
 use Rattle.rh_il.specs.declared.value.Op.TheVariants.{Add, Sub, Mul, Less as LessOp, Equal as EqualOp}
 use Rattle.rh_il.specs.declared.program.Slot.{Slot}
 use Rattle.rh_il.specs.declared.program.Slot.TheVariants.{Out, Then, Else}
-use Rattle.rh_il_text.specs.Text.{op_text}
+use Rattle.rh_print.specs.Operators.{op_text}
 use Rattle.rh_rule.specs.declared.schema.Kind.{Kind}
 use Rattle.rh_rule.specs.declared.schema.Kind.TheVariants.{Var, Const}
 use Rattle.rh_rule_source.specs.declared.word.Word.TheVariants.{Fixed, Number}

@@ -26,9 +26,10 @@ use Rattle.rh_rule.specs.Shapes.{has_wild, is_pattern, is_statement, fact_has_sh
 use Rattle.rh_rule.specs.Checks.{schema_fault, rule_fault}
 use Rattle.rh_rule.specs.RuleFiles.{Rules, IsRuleFile, SchemaPassed, RulePassed}
 use Rattle.rh_rule.proofs.Passed.{passed, schema_passed, rule_passed}
+use Rattle.rh_list.proofs.AtPlace.{has_at, passes_at}
 use Rattle.rh_rule_text.specs.Ranges.{NumberFits, NumbersFit, SchemaNumbersFit, UseNumbersFit, SideNumbersFit, ConclusionNumbersFit, RuleNumbersFit, FileNumbersFit}
 use Rattle.rh_rule_source.proofs.SourceInRange.{IsFilled}
-use Rattle.rh_rule_text.proofs.Each.{not_true, each_has, has_at, each_passes, passes_at, each_of_three, some_first}
+use Rattle.rh_rule_text.proofs.Each.{not_true, each_has, each_passes, each_of_three, some_first}
 use Rattle.rh_il.proofs.Passed.{none_at}
 use Rattle.rh_rule_text.proofs.DistinctNames.{schema_params_distinct, rule_params_distinct, schemas_distinct}
 use Rattle.rh_rule_text.proofs.PrintedFacts.{SchemaFits}

@@ -6,7 +6,7 @@ use Rattle.std.specs.List.{AllByRecursion}
 use Rattle.std.specs.Option.{option_or, option_map_or}
 use Rattle.rh_il.specs.Name.{is_upper_name}
 use Rattle.rh_il.specs.declared.value.Op.{Op}
-use Rattle.rh_il_text.specs.Text.{op_text}
+use Rattle.rh_print.specs.Operators.{op_text}
 use Rattle.rh_rule.specs.declared.schema.Param.{Param}
 use Rattle.rh_rule.specs.declared.schema.MeaningBase.{MeaningBase}
 use Rattle.rh_rule.specs.declared.schema.MeaningBase.TheVariants.{Param as AParam, Num as ANumber}
@@ -24,12 +24,13 @@ use Rattle.rh_rule_source.specs.declared.source.SourceOperation.{SourceOperation
 use Rattle.rh_rule_source.specs.declared.source.SourceParam.{SourceParam}
 use Rattle.rh_rule_source.specs.Grammar.{COMMA, OPEN_PAREN, CLOSE_PAREN}
 use Rattle.rh_rule_source.specs.Source.{base_words, operand_words, op_word, operation_words, computed_words, kind_word, param_words, params_words}
+use Rattle.rh_list.proofs.AtPlace.{passes_at, read_at}
 use Rattle.rh_rule_text.specs.Resolve.{place_of, meaning_base, rule_base, rule_operand, rule_param}
 use Rattle.rh_rule_text.specs.Unknown.{first_of, unknown, unknown_base, unknown_operand}
 use Rattle.rh_rule_text.specs.Text.{param_name, param_text, params_text, base_text, operand_text}
 use Rattle.rh_rule_text.specs.Ranges.{MeaningNumberFits, NumberFits}
 use Rattle.rh_rule_source.proofs.SourceInRange.{BaseInRange, OperandInRange, OperationInRange}
-use Rattle.rh_rule_text.proofs.Each.{read_at, each_passes, passes_at}
+use Rattle.rh_rule_text.proofs.Each.{each_passes}
 use Rattle.rh_rule_text.proofs.Prints.{Prints, Always, Ends, tells, as_text, in_fewer, behind, fixed_behind, fixed_before}
 use Rattle.rh_rule_text.proofs.FixedTexts.{open_text, comma_text, underscore_text, space_text, op_printed, kind_printed}
 use Rattle.rh_rule_text.proofs.PrintedNames.{upper_printed, number_printed}

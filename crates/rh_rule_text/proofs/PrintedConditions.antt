@@ -25,12 +25,13 @@ use Rattle.rh_rule_source.specs.declared.source.SourceCond.{SourceCond}
 use Rattle.rh_rule_source.specs.declared.source.SourceCond.TheVariants.{Fact as FactCond, Side}
 use Rattle.rh_rule_source.specs.Grammar.{COMMA, OPEN_PAREN, CLOSE_PAREN, AT, IN, WHEN}
 use Rattle.rh_rule_source.specs.Source.{base_words, use_words, side_words, cond_words, when_words, relation_word}
+use Rattle.rh_list.proofs.AtPlace.{passes_at, read_at}
 use Rattle.rh_rule_text.specs.Resolve.{place_of, rule_base, fact_of, side_term, compared_side, premises_of, sides_of}
 use Rattle.rh_rule_text.specs.Unknown.{unknown, unknown_base, unknown_use, unknown_side, unknown_cond, first_of}
 use Rattle.rh_rule_text.specs.Text.{operand_text, schema_name, fact_text, premise_text, side_term_text, side_text, listed, conditions_text}
 use Rattle.rh_rule_text.specs.Ranges.{NumberFits, NumbersFit}
 use Rattle.rh_rule_source.proofs.SourceInRange.{BaseInRange, UseInRange, SideInRange, CondInRange, IsFilled}
-use Rattle.rh_rule_text.proofs.Each.{read_at, passes_at, each_passes, each_fails, each_both, filled}
+use Rattle.rh_rule_text.proofs.Each.{each_passes, each_fails, each_both, filled}
 use Rattle.rh_rule_text.proofs.Prints.{Prints, Exactly, Always, Ends, tells, as_text, behind, fixed_behind, fixed_before, anywhere, nothing}
 use Rattle.rh_rule_text.proofs.FixedTexts.{open_text, close_text, comma_text, same_text, differ_text, when_text, at_in_text}
 use Rattle.rh_rule_text.proofs.PrintedNames.{lower_printed}
@@ -179,7 +180,7 @@ module _ (schemas : List Schema) (facts : AreFacts schemas) (params : List Param
   TellsAll words =
       Tells words (λ conds. (flat_map (premises_of (facts_of schemas) (names_of params)) conds, flat_map (sides_of (names_of params)) conds)) (first_of unknown_name) (AllByRecursion CondInRange)
 
-  -- a text of conditions, behind which a name ends where it does behind what follows
+  -- a text of conditions, after which a name ends where it does after what follows
   record PrintsAll (words : List SourceCond → List Word) (text : List ℕ) (premises : List FactUse) (sides : List RuleSide) : Type 0 where
     prints : Prints Ends text (TellsAll words (premises, sides))
     ends : (rest : List ℕ) → Ends rest → Ends (text ++ rest)
@@ -187,7 +188,7 @@ module _ (schemas : List Schema) (facts : AreFacts schemas) (params : List Param
   abbrev more_words : List SourceCond → List Word
   more_words conds = flat_map (λ cond. Fixed COMMA ∷ cond_words cond) conds
 
-  -- one more condition behind a comma
+  -- one more condition after a comma
   one_more : {text others : List ℕ} (premise : List FactUse) (side : List RuleSide) (premises : List FactUse) (sides : List RuleSide) → Prints Ends text (TellsCond (premise, side)) → PrintsAll more_words others premises sides
       → PrintsAll more_words ((codes ", " ++ text) ++ others) (premise ++ premises) (side ++ sides)
   one_more premise side premises sides first others = record {
@@ -205,7 +206,7 @@ module _ (schemas : List Schema) (facts : AreFacts schemas) (params : List Param
     ends = λ rest h. refl;
   }
 
-  -- the first condition behind `when`
+  -- the first condition after `when`
   first_one : {text others : List ℕ} (premise : List FactUse) (side : List RuleSide) (premises : List FactUse) (sides : List RuleSide) → Prints Ends text (TellsCond (premise, side)) → PrintsAll more_words others premises sides
       → PrintsAll when_words ((codes " when " ++ text) ++ others) (premise ++ premises) (side ++ sides)
   first_one premise side premises sides first others = record {

@@ -75,7 +75,7 @@ module _ (params : List Param) (metas : AreMetas params) where
         in_range = told.in_range;
       })
 
-  -- a term in brackets behind a word
+  -- a term in brackets after a word
   bracketed_term : {lead : List ℕ} {words : List Word} → Prints Always lead (Exactly words) → (t : MeaningTerm) → term_is_below (length params) t ≡ true → TermNumbersFit t
       → Prints Ends (lead ++ term_text params t ++ codes ")") (Bracketed term_words (meaning_term (names_of params)) (unknown_term (names_of params)) TermInRange words t)
   bracketed_term lead t below fits = anywhere (bracketed_printed term_words (meaning_term (names_of params)) (unknown_term (names_of params)) TermInRange lead (term_printed t below fits))

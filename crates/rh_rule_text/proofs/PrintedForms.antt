@@ -54,7 +54,7 @@ module _ (params : List Param) (metas : AreMetas params) where
         in_range = right.in_range;
       })))
 
-  -- a part behind `:=` that itself has two parts
+  -- a part after `:=` that itself has two parts
   regrouped : {allowed : List ℕ → Type 0} {P : List Word → Type 0} (a b c : List ℕ) → Prints allowed (a ++ (b ++ c)) P → Prints allowed (a ++ b ++ c) P
   regrouped a b c part = as_text (sym (append_assoc a b c)) part
 
@@ -172,7 +172,7 @@ module _ (params : List Param) (metas : AreMetas params) where
 
 -- ---- templates
 
--- the form of a template may stand behind `transform`, with no `_` where no pattern has one
+-- the form of a template may stand after `transform`, with no `_` where no pattern has one
 pub statement_is_form : (form : RuleForm) → is_statement form ≡ true → IsForm form
 statement_is_form (EntryForm param) h = absurd (false≢true h)
 statement_is_form GotoForm h = absurd (false≢true h)

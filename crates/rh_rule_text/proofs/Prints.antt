@@ -42,7 +42,7 @@ as_text same part = record { pieces = part.pieces; spells = part.spells ∙ same
 pub in_fewer : {allowed fewer : List ℕ → Type 0} {text : List ℕ} {P : List Word → Type 0} → ((rest : List ℕ) → fewer rest → allowed rest) → Prints allowed text P → Prints fewer text P
 in_fewer less part = record { pieces = part.pieces; spells = part.spells; are = λ rest h. part.are rest (less rest h); says = part.says }
 
--- One text behind another. A text of many parts is put together from the last part to the first.
+-- One text after another. A text of many parts is put together from the last part to the first.
 pub behind : {allowed later : List ℕ → Type 0} {a b : List ℕ} {Q G : List Word → Type 0} → Prints later b Q → ((rest : List ℕ) → later rest → allowed (b ++ rest))
     → Prints allowed a (λ v. (w : List Word) → Q w → G (v ++ w)) → Prints later (a ++ b) G
 behind {allowed} {later} {a} {b} {Q} {G} second follows first = record {
@@ -57,7 +57,7 @@ behind {allowed} {later} {a} {b} {Q} {G} second follows first = record {
       subst G (sym (told_append said at first.pieces second.pieces)) (first.says at (told said next second.pieces) (second.says next));
 }
 
--- fixed words behind a text
+-- fixed words after a text
 pub fixed_behind : {allowed later : List ℕ → Type 0} {a b : List ℕ} {words : List Word} {G : List Word → Type 0} → Prints later b (Exactly words) → ((rest : List ℕ) → later rest → allowed (b ++ rest))
     → Prints allowed a (λ v. G (v ++ words)) → Prints later (a ++ b) G
 fixed_behind {allowed} {later} {a} {b} {words} {G} second follows first =

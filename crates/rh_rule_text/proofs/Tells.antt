@@ -48,7 +48,7 @@ module _ {S X : Type 0} (words : S → List Word) (meaning : S → X) (unknown :
   abbrev pub Bracketed : List Word → X → List Word → Type 0
   Bracketed before = Tells (λ s. before ++ words s ++ (Fixed CLOSE_PAREN ∷ [])) meaning unknown InRange
 
-  -- fixed words before a part, and a bracket behind it
+  -- fixed words before a part, and a bracket after it
   pub bracketed_printed : {lead text : List ℕ} {before : List Word} {x : X} → Prints Always lead (Exactly before) → Prints Ends text (Item x) → Prints Always (lead ++ text ++ codes ")") (Bracketed before x)
   bracketed_printed {before = before} lead part =
       fixed_behind close_text (λ rest h. refl)
@@ -82,7 +82,7 @@ module _ {S X : Type 0} (words : S → List Word) (meaning : S → X) (unknown :
 
   -- ---- lists
 
-  -- items behind the first one, each behind a word
+  -- items after the first one, each after a word
   abbrev pub Others : Word → List X → List Word → Type 0
   Others between = Tells (λ sources. flat_map (λ s. between ∷ words s) sources) (map meaning) (first_of unknown) (AllByRecursion InRange)
 
@@ -128,7 +128,7 @@ module _ {S X : Type 0} (words : S → List Word) (meaning : S → X) (unknown :
     joined_printed (x ∷ xs) fit =
         behind (others_printed xs fit.1) (others_end xs) (tells (item x fit.0) (λ v first w others. first_one between x xs v w first others))
 
-  -- items one behind another
+  -- items one after another
   abbrev pub Repeated : List X → List Word → Type 0
   Repeated = Tells (flat_map words) (map meaning) (first_of unknown) (AllByRecursion InRange)
 

@@ -1,5 +1,5 @@
 -- What a byte list is a text of, and its one fault.
-use Rattle.std.specs.Prelude.{◌≡◌, ℕ, List, length, Some, None, slice_get}
+use Rattle.std.specs.Prelude.{◌≡◌, ◌≢◌, ℕ, List, length, Some, None, slice_get}
 use Rattle.std.specs.Option.{option_map_or}
 use Rattle.rh_text.specs.declared.token.Token.{Token}
 use Rattle.rh_text.specs.Pieces.{AreTokens, IsFirstFault}
@@ -32,7 +32,7 @@ pub record IsText (text : List ℕ) (rules : Rules) : Type 0 where
   pub told : rules ≡ resolved source
   pub passes : file_fault rules.schemas rules.rules ≡ None
 
--- the text has tokens, which derive no rule file, and the fault stands at the offset
+-- at the offset stands the first token that cannot continue the text of a rule file
 pub record IsSyntaxAt (text : List ℕ) (offset : ℕ) : Type 0 where
   pub tokens : List Token
   pub are_tokens : AreTokens text tokens
@@ -60,6 +60,13 @@ FaultsAs text (Syntax offset) = IsSyntaxAt text offset
 FaultsAs text (Unknown offset) = IsUnknownAt text offset
 FaultsAs text (WrongRules fault) = FailsCheck text fault
 FaultsAs text NoMemory = Unit {0}
+
+-- The bytes are a text of one rule file or have one fault, and never both. To be out of memory is no
+-- fault of theirs.
+pub record HasOneAnswer (text : List ℕ) : Type 0 where
+  pub one_rule_file : (a b : Rules) → IsText text a → IsText text b → a ≡ b
+  pub one_fault : (f g : RulesFault) → FaultsAs text f → FaultsAs text g → f ≢ NoMemory → g ≢ NoMemory → f ≡ g
+  pub not_both : (rules : Rules) (fault : RulesFault) → IsText text rules → FaultsAs text fault → fault ≡ NoMemory
 
 -- The steps of reading, each with what it tells.
 

@@ -180,6 +180,6 @@ rules_of facts (RuleItem rule) = rule_of facts rule ∷ []
 abbrev pub file_schemas : List SourceItem → List Schema
 file_schemas items = flat_map schemas_of items
 
--- the rules of a file, whose facts may stand in front and behind
+-- the rules of a file, whose facts may stand in front and after
 abbrev pub file_rules : List SourceItem → List Rule
 file_rules items = flat_map (rules_of (flat_map fact_names items)) items

@@ -6,7 +6,7 @@ use Rattle.std.specs.Fmt.{signed_decimal}
 use Rattle.rh_il.specs.declared.value.Op.{Op}
 use Rattle.rh_il.specs.declared.program.Slot.{Slot}
 use Rattle.rh_il.specs.declared.program.Slot.TheVariants.{Out, Then, Else}
-use Rattle.rh_il_text.specs.Text.{op_text}
+use Rattle.rh_print.specs.Operators.{op_text}
 use Rattle.rh_rule.specs.declared.schema.Kind.{Kind}
 use Rattle.rh_rule.specs.declared.schema.Kind.TheVariants.{Var, Const}
 use Rattle.rh_rule.specs.declared.schema.Param.{Param}
@@ -31,7 +31,7 @@ use Rattle.rh_rule.specs.declared.rule.Conclusion.TheVariants.{Fact, Transform}
 use Rattle.rh_rule.specs.declared.rule.Rule.{Rule}
 use Rattle.rh_rule.specs.RuleFiles.{Rules}
 
--- the texts of some items, each behind a separator but the first
+-- the texts of some items, each after a separator but the first
 abbrev pub joined : {X : Type 0} → List ℕ → (X → List ℕ) → List X → List ℕ
 joined separator text [] = []
 joined separator text (first ∷ others) = text first ++ flat_map (λ item. separator ++ text item) others
@@ -43,7 +43,7 @@ kind_text Const = codes "const "
 abbrev pub param_text : Param → List ℕ
 param_text param = kind_text param.kind ++ param.name
 
--- parameters behind the name of a fact or a rule
+-- parameters after the name of a fact or a rule
 abbrev pub params_text : List Param → List ℕ
 params_text params = codes "(" ++ joined (codes ", ") param_text params ++ codes ")"
 
@@ -129,7 +129,7 @@ abbrev pub listed : {X : Type 0} → List ℕ → (X → List ℕ) → List X �
 listed lead text [] = []
 listed lead text (first ∷ others) = lead ++ text first ++ flat_map (λ item. codes ", " ++ text item) others
 
--- the premises, and behind them the side conditions
+-- the premises, then the side conditions
 abbrev pub conditions_text : List Schema → List Param → List FactUse → List Side → List ℕ
 conditions_text schemas params [] sides = listed (codes " when ") (side_text params) sides
 conditions_text schemas params (premise ∷ premises) sides =

@@ -1,4 +1,4 @@
-//! Why a text is no rule file.
+//! Why bytes are not a text of a rule file.
 
 ghost use Rattle.rh_rule_text.specs.declared.fault.RulesFault.TheVariants.{NoMemory};
 ghost use Rattle.std.specs.Prelude.{◌≡◌};
@@ -7,12 +7,13 @@ use rh_rule::RuleFault;
 use rh_text::LexFault;
 use std::alloc::AllocError;
 
-/// Why a text is no rule file. The number is the offset in the text at which the fault stands.
+/// Why bytes are not a text of a rule file: the first fault, in the order of the variants. The number is
+/// its offset.
 #[derive(Clone, Copy, Debug, PartialEq, Eq)]
 pub enum RulesFault {
     /// No token stands there.
     Lex(LexFault),
-    /// The tokens up to this one begin no rule file; at the length of the text they are none.
+    /// The first token that cannot continue a rule file; at the length of the text it ends too early.
     Syntax(u32),
     /// A metavariable that its fact or rule does not declare, or a fact that the file does not
     /// have.

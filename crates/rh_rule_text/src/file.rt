@@ -10,7 +10,7 @@ use crate::resolve::{
 };
 use crate::unknown::{unknown_conclusion, unknown_in_atoms, unknown_in_conds, unknown_pattern};
 use rh_il::Name;
-use rh_il_text::Names;
+use rh_names::Names;
 use rh_list::Items;
 use rh_rule::{Rule, Schema};
 use rh_rule_source::{SourceFact, SourceItem, SourceRule};

@@ -13,4 +13,4 @@ mod unknown;
 pub use fault::RulesFault;
 pub use header::has_header;
 pub use printer::print_rules;
-pub use reader::read_rules;
+pub use reader::{read_rules, rule_texts_have_one_answer};

@@ -12,7 +12,7 @@ mod rules;
 
 use crate::ranges::file_fits;
 use facts::push_schemas;
-use rh_il_text::push;
+use rh_print::push;
 use rh_rule::RuleFile;
 use rules::push_rules;
 use std::alloc::{AllocError, Global};

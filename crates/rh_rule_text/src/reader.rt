@@ -1,6 +1,6 @@
 //! Reads rule files.
 
-ghost use Rattle.std.specs.Prelude.{◌≡◌, ◌≢◌, ◌≤◌, ◌∷◌, [], true, map, length, IfOk, IfErr};
+ghost use Rattle.std.specs.Prelude.{◌≡◌, ◌≢◌, ◌≤◌, ◌∷◌, ℕ, List, [], true, map, length, IfOk, IfErr};
 ghost use Rattle.std.specs.List.{All, list_all};
 ghost use Rattle.rh_text.specs.Pieces.{AreTokens};
 ghost use Rattle.rh_text.specs.Words.{IsTokenOf};
@@ -12,7 +12,7 @@ ghost use Rattle.rh_rule_source.specs.Words.{word_of};
 ghost use Rattle.rh_rule_text.specs.Proper.{is_proper_word};
 ghost use Rattle.rh_rule_source.specs.Source.{file_words};
 ghost use Rattle.rh_rule_source.specs.Spelling.{AreOf};
-ghost use Rattle.rh_rule_text.specs.Reading.{offset_at, IsText, FaultsAs, LexFaultsAs, ParseFaultsAs, IsResolved, ResolveFaultsAs};
+ghost use Rattle.rh_rule_text.specs.Reading.{offset_at, IsText, FaultsAs, HasOneAnswer, LexFaultsAs, ParseFaultsAs, IsResolved, ResolveFaultsAs};
 
 use crate::fault::RulesFault;
 use crate::file::{facts_of, rules_of, schemas_of, unknown_in_items};
@@ -102,3 +102,8 @@ pub fn read_rules(alloc: Global, src: &[u8]) -> Result<RuleFile, RulesFault>
 {
     rules_in(alloc, src)
 }
+
+/// A law: bytes are a text of one rule file or have one fault, and never both.
+pub fn rule_texts_have_one_answer()
+    ensures { (text : List ℕ) → HasOneAnswer text }
+{}

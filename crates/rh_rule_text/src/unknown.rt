@@ -3,7 +3,7 @@
 ghost use Rattle.std.specs.Prelude.{◌≡◌};
 ghost use Rattle.rh_rule_text.specs.Unknown.{first_of, unknown, unknown_base, unknown_operand, unknown_operation, unknown_term, unknown_atom, unknown_right, unknown_form, unknown_pattern, unknown_use, unknown_side, unknown_cond, unknown_conclusion};
 
-use rh_il_text::Names;
+use rh_names::Names;
 use rh_rule_source::{
     SourceAtom, SourceBase, SourceConclusion, SourceCond, SourceForm, SourceOperand,
     SourceOperation, SourcePattern, SourceRight, SourceSide, SourceTerm, SourceUse, Spelled,

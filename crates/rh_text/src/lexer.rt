@@ -1,10 +1,10 @@
 //! The tokens of a text.
 
-ghost use Rattle.std.specs.Prelude.{◌≤◌, List, length, IfOk, IfErr};
+ghost use Rattle.std.specs.Prelude.{ℕ, ◌≤◌, List, length, IfOk, IfErr};
 ghost use Rattle.rh_text.specs.declared.token.Token.{Token};
 ghost use Rattle.rh_text.specs.declared.token.LexFault.{LexFault};
 ghost use Rattle.rh_text.specs.Pieces.{AreTokens, IsFirstFault};
-ghost use Rattle.rh_text.specs.Tokens.{FaultsAs, IsTokens, IsFault};
+ghost use Rattle.rh_text.specs.Tokens.{FaultsAs, HasOneAnswer, IsTokens, IsFault};
 ghost use Rattle.rh_text.specs.Words.{IsTokenOf};
 ghost use Rattle.std.specs.List.{All};
 
@@ -38,3 +38,8 @@ pub fn tokens(alloc: Global, text: &[u8]) -> Result<Vec<Token>, LexFault>
     }
     Ok(tokens)
 }
+
+/// A law: a text has one list of tokens or one first fault, and never both.
+pub fn texts_have_one_answer()
+    ensures { (text : List ℕ) → HasOneAnswer text }
+{}

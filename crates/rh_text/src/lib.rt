@@ -9,10 +9,7 @@ mod sign;
 mod token;
 mod word;
 
-pub use lexer::{TEXT_LIMIT, tokens};
+pub use lexer::{TEXT_LIMIT, texts_have_one_answer, tokens};
 pub use number::{decimal, signed};
 pub use sign::Sign;
 pub use token::{LexFault, Token, TokenKind};
-
-#[cfg(test)]
-mod tests;

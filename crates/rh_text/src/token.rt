@@ -23,7 +23,7 @@ pub struct Token {
     pub end: u32,
 }
 
-/// Why a text has no tokens. The number is the offset at which the fault stands.
+/// Why a text has no tokens. The number is the offset of the fault.
 #[derive(Clone, Copy, Debug, PartialEq, Eq)]
 pub enum LexFault {
     /// No token begins with this byte.

@@ -1,6 +1,6 @@
 //! What a token says.
 
-ghost use Rattle.std.specs.Prelude.{◌≡◌, ◌^◌, ◌≤◌, length};
+ghost use Rattle.std.specs.Prelude.{◌≡◌, ◌≢◌, ◌^◌, ◌≤◌, length};
 ghost use Rattle.rh_text.specs.declared.token.TokenKind.TheVariants.{Number};
 ghost use Rattle.rh_text.specs.Words.{spelling, value_of, IsTokenOf, sign_number};
 
@@ -21,6 +21,7 @@ impl Token {
     pub fn value(self, text: &[u8]) -> u64
         requires { IsTokenOf text.now self }
         ensures value { self.kind ≡ Number → result ≡ value_of text.now self }
+        ensures other { self.kind ≢ Number → result ≡ 0 }
         ensures limit { result ≤ 2 ^ 63 }
     {
         match self.kind {

@@ -1,22 +1,15 @@
-//! What the readers and the printers of programs and of rule files make of texts. Their tests stand here,
-//! since a crate with tests is proved a second time for them.
+//! What the readers of tokens, words, programs and rule files answer: the rows that describe the
+//! language, and one case for each kind of fault. The tests stand here, since a crate with tests is
+//! proved a second time for them.
 #![tactic(auto)]
 
 #[cfg(test)]
-mod near_texts;
+mod command_words;
 #[cfg(test)]
-mod program_faults;
+mod programs;
 #[cfg(test)]
-mod program_reads;
+mod rule_files;
 #[cfg(test)]
-mod program_texts;
+mod standard_rules;
 #[cfg(test)]
-mod round_trips;
-#[cfg(test)]
-mod rule_checks;
-#[cfg(test)]
-mod rule_faults;
-#[cfg(test)]
-mod rule_reads;
-#[cfg(test)]
-mod rule_texts;
+mod tokens;

@@ -76,7 +76,7 @@ first_made : {X Y : Type 0} (f : X → Y) (found others : Option X) (y otherwise
 first_made f None others y otherwise is = absurd cc
 first_made f (Some x) others y otherwise is = cc
 
--- the candidates of one more rule come before those of the rules behind it
+-- the candidates of one more rule come before those of the rules after it
 one_rule : (known : Known) (rules : List Rule) (rulings : List Ruling) (place : ℕ) (proc : Proc) (number k : ℕ) (rule : Rule) (ruling otherwise : Ruling)
     → k < length rules → k < length rulings → rule ≡ get_or rules k rule → ruling ≡ get_or rulings k otherwise → none_before known rules rulings place proc number k
     → first_applicable known rules rulings place proc number

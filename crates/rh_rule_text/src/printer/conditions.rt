@@ -1,11 +1,11 @@
-//! What stands behind `when`.
+//! What stands after `when`.
 
 ghost use Rattle.std.specs.Prelude.{◌≡◌, ◌++◌, codes, OnOk};
 ghost use Rattle.std.specs.List.{flat_map};
 ghost use Rattle.rh_rule_text.specs.Text.{joined, operand_text, schema_name, fact_text, premise_text, side_term_text, side_text, listed, conditions_text};
 
 use super::forms::{push_compute, push_operand};
-use rh_il_text::push;
+use rh_print::push;
 use rh_rule::{FactUse, Param, RuleBase, Schema, Side, SideTerm};
 use std::alloc::{AllocError, Global};
 
@@ -18,7 +18,7 @@ fn push_schema_name(out: &mut Vec<u8>, schemas: &[Schema], number: u32) -> Resul
     }
 }
 
-/// The arguments of a fact, each behind a comma but the first.
+/// The arguments of a fact, each after a comma but the first.
 fn push_args(
     alloc: Global,
     out: &mut Vec<u8>,
@@ -179,7 +179,7 @@ fn push_more_sides(
     Ok(())
 }
 
-/// The premises, and behind them the side conditions.
+/// The premises, then the side conditions.
 pub(super) fn push_conditions(
     alloc: Global,
     out: &mut Vec<u8>,

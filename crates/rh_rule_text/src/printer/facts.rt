@@ -5,7 +5,7 @@ ghost use Rattle.std.specs.List.{flat_map};
 ghost use Rattle.rh_rule_text.specs.Text.{joined, term_text, atom_text, schema_text};
 
 use super::parts::{push_base, push_param_name, push_params};
-use rh_il_text::{op_text, push};
+use rh_print::{op_text, push};
 use rh_rule::{MeaningAtom, MeaningTerm, Param, Schema};
 use std::alloc::{AllocError, Global};
 
@@ -76,7 +76,7 @@ fn push_atom(
     }
 }
 
-/// The atoms of a meaning, each behind `and` but the first.
+/// The atoms of a meaning, each after `and` but the first.
 fn push_meaning(
     alloc: Global,
     out: &mut Vec<u8>,

@@ -5,7 +5,7 @@ ghost use Rattle.rh_rule_text.specs.Text.{operand_text, compute_text, to_text, f
 
 use super::parts::push_param_name;
 use rh_il::Op;
-use rh_il_text::{op_text, push, push_number};
+use rh_print::{op_text, push, push_number};
 use rh_rule::{Form, Param, RuleBase};
 use std::alloc::{AllocError, Global};
 

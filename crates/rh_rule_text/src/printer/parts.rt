@@ -4,7 +4,7 @@ ghost use Rattle.std.specs.Prelude.{◌≡◌, ◌++◌, codes, OnOk};
 ghost use Rattle.std.specs.List.{flat_map};
 ghost use Rattle.rh_rule_text.specs.Text.{joined, kind_text, param_text, params_text, param_name, base_text};
 
-use rh_il_text::{push, push_number};
+use rh_print::{push, push_number};
 use rh_rule::{Kind, MeaningBase, Param};
 use std::alloc::{AllocError, Global};
 
@@ -24,7 +24,7 @@ fn push_param(out: &mut Vec<u8>, param: &Param) -> Result<(), AllocError>
     push(out, param.name.bytes())
 }
 
-/// Parameters, each behind a comma but the first.
+/// Parameters, each after a comma but the first.
 fn push_param_list(out: &mut Vec<u8>, params: &[Param]) -> Result<(), AllocError>
     ensures { OnOk result (out.new.items ≡ out.old.items ++ joined (codes ", ") param_text params.now) }
 {

@@ -8,7 +8,7 @@ use super::conditions::{push_conditions, push_fact};
 use super::forms::push_form;
 use super::parts::push_params;
 use rh_il::Slot;
-use rh_il_text::push;
+use rh_print::push;
 use rh_rule::{Conclusion, Param, Rule, Schema};
 use std::alloc::{AllocError, Global};
 

@@ -4,7 +4,7 @@ use Rattle.rh_grammar.specs.Test.{Tables}
 use Rattle.rh_grammar.proofs.Passing.{parsable}
 use Rattle.rh_il_text.proofs.judge.judge.Goals as goal
 
--- which classes may come behind each nonterminal, and a production of each
+-- which classes may come after each nonterminal, and a production of each
 tables : Tables
 tables = record {
   classes = 28;

@@ -7,7 +7,7 @@ use Rattle.rh_rule_source.proofs.Steps.{chosen, within, both_ok}
 use Rattle.rh_rule_source.proofs.Lists.{conds_separated}
 use Rattle.rh_rule_source.proofs.cursor.Cursor.when.Goals as goal
 
--- where there are conditions, they stand behind `when`
+-- where there are conditions, they stand after `when`
 some_words : (conds : List SourceCond) → 0 < length conds → when_words conds ≡ Fixed WHEN ∷ conds_words conds
 some_words [] some = absurd (omega arith)
 some_words (x ∷ xs) some = refl

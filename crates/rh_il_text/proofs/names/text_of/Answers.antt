@@ -1,8 +1,0 @@
-use Rattle.std.proofs.Common.{sym, subst}
-use Rattle.std.specs.Str.{IsUtf8}
-use Rattle.rh_il_text.proofs.AsciiNames.{name_is_text}
-use Rattle.rh_il_text.proofs.names.text_of.Goals as goal
-
-pub unreachable-requires : goal.unreachable-requires
-unreachable-requires c =
-    c.in-Err.ensures.cases.0 (subst IsUtf8 (sym c.bytes.ensures.value) (name_is_text c.args.name.now c.bytes.ensures.name))

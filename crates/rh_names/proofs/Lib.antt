@@ -1,0 +1,2 @@
+mod AsciiNames
+pub mod IndexSteps
