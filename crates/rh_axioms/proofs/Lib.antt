@@ -9,3 +9,4 @@ pub mod Arithmetic
 pub mod Literals
 pub mod Truths
 pub mod Bounds
+pub mod Computing
