@@ -32,14 +32,8 @@ total_is_number Add (ANumber a) (ANumber b) = refl
 total_is_number Sub (ANumber a) (ANumber b) = refl
 total_is_number Mul (ANumber a) (ANumber b) = refl
 total_is_number Less (ANumber a) (ANumber b) = refl
-total_is_number Add (ANumber a) (APointer b) = refl
-total_is_number Sub (ANumber a) (APointer b) = refl
-total_is_number Mul (ANumber a) (APointer b) = refl
-total_is_number Less (ANumber a) (APointer b) = refl
-total_is_number Add (APointer a) b = refl
-total_is_number Sub (APointer a) b = refl
-total_is_number Mul (APointer a) b = refl
-total_is_number Less (APointer a) b = refl
+total_is_number _ (ANumber a) (APointer b) = refl
+total_is_number _ (APointer a) b = refl
 
 pub its_number : (v : Value) → is_number v ≡ true → ANumber (number_in v) ≡ v
 its_number (ANumber n) h = refl
@@ -129,16 +123,13 @@ times_comm a b = *ℤ_comm a b
 
 pub commuted : (op : Operator) (a b : Value) → commutes op ≡ true → total op a b ≡ total op b a
 commuted Add (ANumber a) (ANumber b) e = ap (λ n. ANumber (int_wrap w64 n)) (plus_comm a b)
-commuted Add (ANumber a) (APointer b) e = refl
-commuted Add (APointer a) (ANumber b) e = refl
-commuted Add (APointer a) (APointer b) e = refl
 commuted Mul (ANumber a) (ANumber b) e = ap (λ n. ANumber (int_wrap w64 n)) (times_comm a b)
-commuted Mul (ANumber a) (APointer b) e = refl
-commuted Mul (APointer a) (ANumber b) e = refl
-commuted Mul (APointer a) (APointer b) e = refl
 commuted Equal a b e = ap (λ t. ANumber (truth t)) (value_eq-sym a b)
 commuted Sub a b e = cc
 commuted Less a b e = cc
+commuted _ (ANumber a) (APointer b) e = refl
+commuted _ (APointer a) (ANumber b) e = refl
+commuted _ (APointer a) (APointer b) e = refl
 
 -- ---- stores
 

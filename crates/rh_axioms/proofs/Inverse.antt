@@ -7,7 +7,7 @@ use Rattle.rh_il.specs.declared.value.Op.{Op as Operator}
 use Rattle.rh_il.specs.Op.{op_eq}
 use Rattle.rh_il.proofs.Operators.{op_eq-true}
 use Rattle.rh_term.specs.declared.term.Term.{Term}
-use Rattle.rh_term.specs.declared.term.Term.TheVariants.{Num, Cst, Addr, Any, Fresh, Answer, Before, After, Start, Sel, Upd, Op, Kind, IsNum, IsPtr, Una, Yes}
+use Rattle.rh_term.specs.declared.term.Term.TheVariants.{Num, Sel, Upd, Op, Kind, Una}
 use Rattle.rh_axioms.specs.Parts.{as_num, as_sel, as_upd, as_op, as_kind, as_una, operands}
 
 got : {A : Type 0} (a b : A) → Some a ≡ Some b → a ≡ b
@@ -15,117 +15,27 @@ got a b e = cc
 
 pub num_of : (t : Term) (p : ℤ) → as_num t ≡ Some p → t ≡ Num p
 num_of (Num a) p e = ap (λ (p : ℤ). Num p) (got a p e)
-num_of (Cst a) p e = cc
-num_of (Addr a) p e = cc
-num_of Any p e = cc
-num_of Fresh p e = cc
-num_of Answer p e = cc
-num_of Before p e = cc
-num_of After p e = cc
-num_of Start p e = cc
-num_of (Sel a b) p e = cc
-num_of (Upd a b c) p e = cc
-num_of (Op a b c) p e = cc
-num_of (Kind a) p e = cc
-num_of IsNum p e = cc
-num_of IsPtr p e = cc
-num_of (Una a b) p e = cc
-num_of Yes p e = cc
+num_of _ p e = cc
 
 pub sel_of : (t : Term) (p : ℕ × ℕ) → as_sel t ≡ Some p → t ≡ Sel p.0 p.1
-sel_of (Num a) p e = cc
-sel_of (Cst a) p e = cc
-sel_of (Addr a) p e = cc
-sel_of Any p e = cc
-sel_of Fresh p e = cc
-sel_of Answer p e = cc
-sel_of Before p e = cc
-sel_of After p e = cc
-sel_of Start p e = cc
 sel_of (Sel a b) p e = ap (λ (p : ℕ × ℕ). Sel p.0 p.1) (got (a, b) p e)
-sel_of (Upd a b c) p e = cc
-sel_of (Op a b c) p e = cc
-sel_of (Kind a) p e = cc
-sel_of IsNum p e = cc
-sel_of IsPtr p e = cc
-sel_of (Una a b) p e = cc
-sel_of Yes p e = cc
+sel_of _ p e = cc
 
 pub upd_of : (t : Term) (p : ℕ × ℕ × ℕ) → as_upd t ≡ Some p → t ≡ Upd p.0 p.1 p.2
-upd_of (Num a) p e = cc
-upd_of (Cst a) p e = cc
-upd_of (Addr a) p e = cc
-upd_of Any p e = cc
-upd_of Fresh p e = cc
-upd_of Answer p e = cc
-upd_of Before p e = cc
-upd_of After p e = cc
-upd_of Start p e = cc
-upd_of (Sel a b) p e = cc
 upd_of (Upd a b c) p e = ap (λ (p : ℕ × ℕ × ℕ). Upd p.0 p.1 p.2) (got (a, b, c) p e)
-upd_of (Op a b c) p e = cc
-upd_of (Kind a) p e = cc
-upd_of IsNum p e = cc
-upd_of IsPtr p e = cc
-upd_of (Una a b) p e = cc
-upd_of Yes p e = cc
+upd_of _ p e = cc
 
 pub op_of : (t : Term) (p : Operator × ℕ × ℕ) → as_op t ≡ Some p → t ≡ Op p.0 p.1 p.2
-op_of (Num a) p e = cc
-op_of (Cst a) p e = cc
-op_of (Addr a) p e = cc
-op_of Any p e = cc
-op_of Fresh p e = cc
-op_of Answer p e = cc
-op_of Before p e = cc
-op_of After p e = cc
-op_of Start p e = cc
-op_of (Sel a b) p e = cc
-op_of (Upd a b c) p e = cc
 op_of (Op a b c) p e = ap (λ (p : Operator × ℕ × ℕ). Op p.0 p.1 p.2) (got (a, b, c) p e)
-op_of (Kind a) p e = cc
-op_of IsNum p e = cc
-op_of IsPtr p e = cc
-op_of (Una a b) p e = cc
-op_of Yes p e = cc
+op_of _ p e = cc
 
 pub kind_of : (t : Term) (p : ℕ) → as_kind t ≡ Some p → t ≡ Kind p
-kind_of (Num a) p e = cc
-kind_of (Cst a) p e = cc
-kind_of (Addr a) p e = cc
-kind_of Any p e = cc
-kind_of Fresh p e = cc
-kind_of Answer p e = cc
-kind_of Before p e = cc
-kind_of After p e = cc
-kind_of Start p e = cc
-kind_of (Sel a b) p e = cc
-kind_of (Upd a b c) p e = cc
-kind_of (Op a b c) p e = cc
 kind_of (Kind a) p e = ap (λ (p : ℕ). Kind p) (got a p e)
-kind_of IsNum p e = cc
-kind_of IsPtr p e = cc
-kind_of (Una a b) p e = cc
-kind_of Yes p e = cc
+kind_of _ p e = cc
 
 pub una_of : (t : Term) (p : ℕ × ℕ) → as_una t ≡ Some p → t ≡ Una p.0 p.1
-una_of (Num a) p e = cc
-una_of (Cst a) p e = cc
-una_of (Addr a) p e = cc
-una_of Any p e = cc
-una_of Fresh p e = cc
-una_of Answer p e = cc
-una_of Before p e = cc
-una_of After p e = cc
-una_of Start p e = cc
-una_of (Sel a b) p e = cc
-una_of (Upd a b c) p e = cc
-una_of (Op a b c) p e = cc
-una_of (Kind a) p e = cc
-una_of IsNum p e = cc
-una_of IsPtr p e = cc
 una_of (Una a b) p e = ap (λ (p : ℕ × ℕ). Una p.0 p.1) (got (a, b) p e)
-una_of Yes p e = cc
+una_of _ p e = cc
 
 from_operation : (op : Operator) (t : Term) (p : ℕ × ℕ) (found : Option (Operator × ℕ × ℕ)) → as_op t ≡ found
     → option_and_then (λ (parts : Operator × ℕ × ℕ). if op_eq parts.0 op then Some (parts.1, parts.2) else None) found ≡ Some p → t ≡ Op op p.0 p.1

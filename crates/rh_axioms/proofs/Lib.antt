@@ -8,3 +8,5 @@ pub mod Sorts
 pub mod Arithmetic
 pub mod Literals
 pub mod Truths
+pub mod Bounds
+pub mod Computing

@@ -31,36 +31,16 @@ value_sort model known (Addr a) e = refl
 value_sort model known Any e = refl
 value_sort model known Fresh e = refl
 value_sort model known Answer e = refl
-value_sort model known Before e = cc
-value_sort model known After e = cc
-value_sort model known Start e = cc
 value_sort model known (Sel a b) e = refl
-value_sort model known (Upd a b c) e = cc
 value_sort model known (Op a b c) e = refl
-value_sort model known (Kind a) e = cc
-value_sort model known IsNum e = cc
-value_sort model known IsPtr e = cc
-value_sort model known (Una a b) e = cc
-value_sort model known Yes e = cc
+value_sort model known _ e = cc
 
 store_sort : (model : Model) (known : List Denotation) (t : Term) → is_store_term t ≡ true → denotation_in model known t ≡ AStore (store_of (denotation_in model known t))
-store_sort model known (Num a) e = cc
-store_sort model known (Cst a) e = cc
-store_sort model known (Addr a) e = cc
-store_sort model known Any e = cc
-store_sort model known Fresh e = cc
-store_sort model known Answer e = cc
 store_sort model known Before e = refl
 store_sort model known After e = refl
 store_sort model known Start e = refl
-store_sort model known (Sel a b) e = cc
 store_sort model known (Upd a b c) e = refl
-store_sort model known (Op a b c) e = cc
-store_sort model known (Kind a) e = cc
-store_sort model known IsNum e = cc
-store_sort model known IsPtr e = cc
-store_sort model known (Una a b) e = cc
-store_sort model known Yes e = cc
+store_sort model known _ e = cc
 
 module _ (model : Model) (terms : List Term) (list : IsTermList terms) where
   pub value_stands : (i : ℕ) → Stands is_value_term terms i → denotation_at (denotations model terms) i ≡ AValue (value_at (denotations model terms) i)
@@ -147,7 +127,6 @@ module _ (model : Model) (is_model : IsModel model) where
   denotation_in_range : (known : List Denotation) (term : Term) → AllByRecursion InRange known → HasNumber term → InRange (denotation_in model known term)
   denotation_in_range known (Num a) h n = n
   denotation_in_range known (Cst a) h n = is_model.numbers a
-  denotation_in_range known (Addr a) h n = tt
   denotation_in_range known Any h n = is_model.any
   denotation_in_range known Fresh h n = is_model.fresh
   denotation_in_range known Answer h n = is_model.answer
@@ -157,11 +136,7 @@ module _ (model : Model) (is_model : IsModel model) where
   denotation_in_range known (Sel a b) h n = select_in_range (store_at known a) (value_at known b) (store_in_range (denotation_at known a) (at_in_range known h a))
   denotation_in_range known (Upd a b c) h n = update_in_range (store_at known a) (value_at known b) (value_at known c) (store_in_range (denotation_at known a) (at_in_range known h a)) (value_in_range (denotation_at known c) (at_in_range known h c))
   denotation_in_range known (Op a b c) h n = total_in_range a (value_at known b) (value_at known c)
-  denotation_in_range known (Kind a) h n = tt
-  denotation_in_range known IsNum h n = tt
-  denotation_in_range known IsPtr h n = tt
-  denotation_in_range known (Una a b) h n = tt
-  denotation_in_range known Yes h n = tt
+  denotation_in_range known _ h n = tt
 
   all_in_range : (terms : List Term) (known : List Denotation) → ((i : ℕ) (term : Term) → slice_get terms i ≡ Some term → HasNumber term)
       → AllByRecursion InRange known → AllByRecursion InRange (fold (grow model) known terms)

@@ -1,4 +1,5 @@
 pub mod Parts
 pub mod Instance
 pub mod Rows
+pub mod Computed
 pub mod Laws

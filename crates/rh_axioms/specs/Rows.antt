@@ -190,16 +190,16 @@ single A22 = other_order
 single A24 = unheld_after
 single _ = λ terms place term. None
 
--- the clauses for each term of a list, the first of which has this place
-abbrev pub each_from : ℕ → List Term → (ℕ → Term → List Clause) → List Clause
+-- what is made of each term of a list, the first of which has this place
+abbrev pub each_from : {X : Type 0} → ℕ → List Term → (ℕ → Term → List X) → List X
 each_from place [] make = []
 each_from place (term ∷ terms) make = make place term ++ each_from (place + 1) terms make
 
-abbrev pub each : List Term → (ℕ → Term → List Clause) → List Clause
+abbrev pub each : {X : Type 0} → List Term → (ℕ → Term → List X) → List X
 each terms make = each_from 0 terms make
 
--- the clauses of what there may be
-abbrev pub of_some : {A : Type 0} → Option A → (A → List Clause) → List Clause
+-- what is made of what there may be
+abbrev pub of_some : {A X : Type 0} → Option A → (A → List X) → List X
 of_some found make = option_map_or make found []
 
 -- the instances of the schemas that name two numbers, an operator and two numbers, or an `Una` and a `Sel`

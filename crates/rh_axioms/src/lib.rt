@@ -1,6 +1,7 @@
 //! The clause schemas: what every model makes true of stores, operators, kinds and cells.
 #![tactic(auto)]
 
+mod computed;
 mod instance;
 mod kinds;
 mod laws;

@@ -1,9 +1,14 @@
 //! The instances of a table over a list of terms.
-ghost use Rattle.std.specs.Prelude.{◌≡◌, ◌++◌, ◌≤◌, ◌<◌, ◌^◌, length, IfOk, IsTrue};
+ghost use Rattle.std.specs.Prelude.{◌≡◌, ℕ, ◌++◌, ◌≤◌, List, map, length, IfOk, IsTrue};
+ghost use Rattle.rh_term.specs.declared.clause.Clause.{Clause};
+ghost use Rattle.rh_term.specs.declared.term.Term.{Term};
 ghost use Rattle.rh_term.specs.Clause.{are_within};
+ghost use Rattle.rh_axioms.specs.Computed.{by_triples, clause_with};
 ghost use Rattle.rh_axioms.specs.Instance.{clauses_of};
-ghost use Rattle.rh_axioms.specs.Rows.{single, each, number_pairs, computed_with, computations, reads_of_unheld, row, instances_of};
+ghost use Rattle.rh_axioms.specs.Parts.{as_sel};
+ghost use Rattle.rh_axioms.specs.Rows.{computations, each, instances_of, number_pairs, numbers_differ, of_some, reads_of_unheld, row, single, unheld_unread};
 
+use crate::computed::{Computed, Triple, instance_with};
 use crate::instance::{Instance, clause_of};
 use crate::kinds::{kind_of_address, kind_of_constant, kind_of_number, kind_of_operation};
 use crate::parts::{as_num, as_op, as_sel, as_una};
@@ -95,54 +100,136 @@ fn add_row(
 {
     match schema {
         Axiom::A8 => put(alloc, kinds_differ(terms), clauses),
-        Axiom::A9 => add_number_pairs(alloc, terms, clauses),
+        Axiom::A9 => add_each(alloc, &NumberPairs, terms, clauses),
         Axiom::A10 => add_computations(alloc, terms, clauses),
-        Axiom::A23 => add_reads_of_unheld(alloc, terms, clauses),
-        _ => add_singles(alloc, schema, terms, clauses),
+        Axiom::A23 => add_each(alloc, &UnheldReads, terms, clauses),
+        _ => add_each(alloc, &OneTerm(schema), terms, clauses),
     }
 }
 
-fn add_singles(
+/// The clauses that are given for one term of a list.
+trait PerTerm {
+    // the clauses for a term of the list, with its place
+    ghost clauses_for: { Self → List Term → ℕ → Term → List Clause };
+
+    /// Puts the clauses at the end.
+    fn add(
+        &self,
+        alloc: Global,
+        terms: &Terms,
+        place: u32,
+        term: Term,
+        clauses: &mut Vec<Clause>,
+    ) -> Result<(), AllocError>
+        ensures { IfOk result (λ _. clauses.new.items ≡ clauses.old.items ++ clauses_for self.now terms.now place term) };
+}
+
+/// Puts the clauses for each term of the list at the end.
+fn add_each<P: PerTerm>(
     alloc: Global,
-    schema: Axiom,
+    given: &P,
     terms: &Terms,
     clauses: &mut Vec<Clause>,
 ) -> Result<(), AllocError>
-    ensures { IfOk result (λ _. clauses.new.items ≡ clauses.old.items ++ each terms.now (λ place term. clauses_of (single schema terms.now place term))) }
+    ensures { IfOk result (λ _. clauses.new.items ≡ clauses.old.items ++ each terms.now (P.clauses_for given.now terms.now)) }
 {
     for (place, term) in terms.as_slice().iter().enumerate() {
-        put(alloc, single(schema, terms, place as u32, *term), clauses)?;
+        given.add(alloc, terms, place as u32, *term, clauses)?;
     }
     Ok(())
 }
 
-fn add_number_pairs(
-    alloc: Global,
-    terms: &Terms,
-    clauses: &mut Vec<Clause>,
-) -> Result<(), AllocError>
-    ensures { IfOk result (λ _. clauses.new.items ≡ clauses.old.items ++ each terms.now (number_pairs terms.now)) }
-{
-    for (place, term) in terms.as_slice().iter().enumerate() {
-        add_pairs_of(alloc, terms, place as u32, *term, clauses)?;
+/// A schema that names one term.
+#[derive(Clone, Copy)]
+struct OneTerm(Axiom);
+
+impl PerTerm for OneTerm {
+    ghost clauses_for = { λ given terms place term. clauses_of (single given.0 terms place term) };
+
+    fn add(
+        &self,
+        alloc: Global,
+        terms: &Terms,
+        place: u32,
+        term: Term,
+        clauses: &mut Vec<Clause>,
+    ) -> Result<(), AllocError> {
+        put(alloc, single(self.0, terms, place, term), clauses)
     }
-    Ok(())
 }
 
-fn add_pairs_of(
+/// The numbers that differ from one of the list.
+#[derive(Clone, Copy)]
+struct NumberPairs;
+
+impl PerTerm for NumberPairs {
+    ghost clauses_for = { λ _ terms place term. number_pairs terms place term };
+
+    fn add(
+        &self,
+        alloc: Global,
+        terms: &Terms,
+        place: u32,
+        term: Term,
+        clauses: &mut Vec<Clause>,
+    ) -> Result<(), AllocError> {
+        let Some(_number) = as_num(term) else {
+            return Ok(());
+        };
+        add_each(alloc, &OtherNumbers(place), terms, clauses)
+    }
+}
+
+/// The later numbers, which differ from the number at a place.
+#[derive(Clone, Copy)]
+struct OtherNumbers(u32);
+
+impl PerTerm for OtherNumbers {
+    ghost clauses_for = { λ given terms later other. clauses_of (numbers_differ given.0 later other) };
+
+    fn add(
+        &self,
+        alloc: Global,
+        _terms: &Terms,
+        later: u32,
+        other: Term,
+        clauses: &mut Vec<Clause>,
+    ) -> Result<(), AllocError> {
+        put(alloc, numbers_differ(self.0, later, other), clauses)
+    }
+}
+
+/// The computed operators.
+impl PerTerm for Computed {
+    ghost clauses_for = { λ given terms place term. by_triples given place term };
+
+    fn add(
+        &self,
+        alloc: Global,
+        _terms: &Terms,
+        place: u32,
+        term: Term,
+        clauses: &mut Vec<Clause>,
+    ) -> Result<(), AllocError> {
+        let Some(operation) = as_op(term) else {
+            return Ok(());
+        };
+        add_triples(alloc, place, operation, self.triples(operation.0), clauses)
+    }
+}
+
+fn add_triples(
     alloc: Global,
-    terms: &Terms,
     place: u32,
-    term: Term,
+    operation: (Op, u32, u32),
+    triples: &[Triple],
     clauses: &mut Vec<Clause>,
 ) -> Result<(), AllocError>
-    ensures { IfOk result (λ _. clauses.new.items ≡ clauses.old.items ++ number_pairs terms.now place term) }
+    ensures { IfOk result (λ _. clauses.new.items ≡ clauses.old.items ++ map (clause_with place operation) triples.now) }
 {
-    let Some(_number) = as_num(term) else {
-        return Ok(());
-    };
-    for (later, other) in terms.as_slice().iter().enumerate() {
-        put(alloc, numbers_differ(place, later as u32, *other), clauses)?;
+    for triple in triples {
+        let instance = instance_with(place, operation, *triple);
+        clauses.push(clause_of(alloc, instance)?)?;
     }
     Ok(())
 }
@@ -154,92 +241,57 @@ fn add_computations(
 ) -> Result<(), AllocError>
     ensures { IfOk result (λ _. clauses.new.items ≡ clauses.old.items ++ each terms.now (computations terms.now)) }
 {
-    for (place, term) in terms.as_slice().iter().enumerate() {
-        add_computations_of(alloc, terms, place as u32, *term, clauses)?;
-    }
-    Ok(())
+    let computed = Computed::of(alloc, terms)?;
+    add_each(alloc, &computed, terms, clauses)
 }
 
-fn add_computations_of(
-    alloc: Global,
-    terms: &Terms,
+/// What no cell holds, and the reads.
+#[derive(Clone, Copy)]
+struct UnheldReads;
+
+impl PerTerm for UnheldReads {
+    ghost clauses_for = { λ _ terms place term. reads_of_unheld terms place term };
+
+    fn add(
+        &self,
+        alloc: Global,
+        terms: &Terms,
+        place: u32,
+        term: Term,
+        clauses: &mut Vec<Clause>,
+    ) -> Result<(), AllocError> {
+        let Some(unheld) = as_una(term) else {
+            return Ok(());
+        };
+        add_each(alloc, &ReadsOf { place, unheld }, terms, clauses)
+    }
+}
+
+/// The reads of a store of which no cell holds a value.
+#[derive(Clone, Copy)]
+struct ReadsOf {
     place: u32,
-    term: Term,
-    clauses: &mut Vec<Clause>,
-) -> Result<(), AllocError>
-    ensures { IfOk result (λ _. clauses.new.items ≡ clauses.old.items ++ computations terms.now place term) }
-{
-    let Some(operation) = as_op(term) else {
-        return Ok(());
-    };
-    for (left, number) in terms.as_slice().iter().enumerate() {
-        add_computed_with(
+    unheld: (u32, u32),
+}
+
+impl PerTerm for ReadsOf {
+    ghost clauses_for = { λ given terms at other. of_some (as_sel other) (λ read. clauses_of (unheld_unread terms given.place given.unheld at read)) };
+
+    fn add(
+        &self,
+        alloc: Global,
+        terms: &Terms,
+        at: u32,
+        other: Term,
+        clauses: &mut Vec<Clause>,
+    ) -> Result<(), AllocError> {
+        let Some(read) = as_sel(other) else {
+            return Ok(());
+        };
+        put(
             alloc,
-            terms,
-            place,
-            operation,
-            left as u32,
-            *number,
+            unheld_unread(terms, self.place, self.unheld, at, read),
             clauses,
-        )?;
+        )
     }
-    Ok(())
-}
-
-fn add_computed_with(
-    alloc: Global,
-    terms: &Terms,
-    place: u32,
-    operation: (Op, u32, u32),
-    left: u32,
-    term: Term,
-    clauses: &mut Vec<Clause>,
-) -> Result<(), AllocError>
-    ensures { IfOk result (λ _. clauses.new.items ≡ clauses.old.items ++ computed_with terms.now place operation left term) }
-{
-    let Some(first) = as_num(term) else {
-        return Ok(());
-    };
-    for (right, other) in terms.as_slice().iter().enumerate() {
-        let instance = computed(terms, place, operation, left, first, right as u32, *other);
-        put(alloc, instance, clauses)?;
-    }
-    Ok(())
-}
-
-fn add_reads_of_unheld(
-    alloc: Global,
-    terms: &Terms,
-    clauses: &mut Vec<Clause>,
-) -> Result<(), AllocError>
-    ensures { IfOk result (λ _. clauses.new.items ≡ clauses.old.items ++ each terms.now (reads_of_unheld terms.now)) }
-{
-    for (place, term) in terms.as_slice().iter().enumerate() {
-        add_reads_of(alloc, terms, place as u32, *term, clauses)?;
-    }
-    Ok(())
-}
-
-fn add_reads_of(
-    alloc: Global,
-    terms: &Terms,
-    place: u32,
-    term: Term,
-    clauses: &mut Vec<Clause>,
-) -> Result<(), AllocError>
-    ensures { IfOk result (λ _. clauses.new.items ≡ clauses.old.items ++ reads_of_unheld terms.now place term) }
-{
-    let Some(unheld) = as_una(term) else {
-        return Ok(());
-    };
-    for (at, other) in terms.as_slice().iter().enumerate() {
-        if let Some(read) = as_sel(*other) {
-            put(
-                alloc,
-                unheld_unread(terms, place, unheld, at as u32, read),
-                clauses,
-            )?;
-        }
-    }
-    Ok(())
 }

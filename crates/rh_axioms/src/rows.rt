@@ -1,11 +1,11 @@
 //! What each schema gives for a term of the list, with its place.
 ghost use Rattle.std.specs.Prelude.{◌≡◌, pos};
-ghost use Rattle.rh_axioms.specs.Rows.{read_back, read_before, write_nothing_new, kinds_differ, unit_on_the_right, unit_on_the_left, zero_on_the_right, zero_on_the_left, same_operands, different_operands, other_order, commutes, unheld_after, numbers_differ, result_of, computed, unheld_unread};
+ghost use Rattle.rh_axioms.specs.Rows.{read_back, read_before, write_nothing_new, kinds_differ, unit_on_the_right, unit_on_the_left, zero_on_the_right, zero_on_the_left, same_operands, different_operands, other_order, commutes, unheld_after, numbers_differ, unheld_unread};
 ghost use Rattle.rh_axioms.specs.Parts.{operands};
 
 use crate::instance::{Instance, differ, equal};
 use crate::parts::{as_num, as_op, as_sel, as_una, as_upd};
-use rh_il::{Op, Value};
+use rh_il::Op;
 use rh_term::{Term, Terms};
 
 pub fn read_back(terms: &Terms, place: u32, term: Term) -> Option<Instance>
@@ -180,37 +180,6 @@ pub fn numbers_differ(place: u32, later: u32, term: Term) -> Option<Instance>
     } else {
         None
     }
-}
-
-/// The number that the operator makes of two.
-fn result_of(op: Op, left: i64, right: i64) -> i64
-    ensures { result ≡ result_of op left right }
-{
-    match op.total(Value::Num(left), Value::Num(right)) {
-        Value::Num(number) => number,
-        Value::Ptr(_) => 0,
-    }
-}
-
-pub fn computed(
-    terms: &Terms,
-    place: u32,
-    operation: (Op, u32, u32),
-    left: u32,
-    number: i64,
-    right: u32,
-    term: Term,
-) -> Option<Instance>
-    ensures { result ≡ computed terms.now place operation left number right term }
-{
-    let (op, first, second) = operation;
-    let other = as_num(term)?;
-    let outcome = terms.find(Term::Num(result_of(op, number, other)))?;
-    Some(Instance::Three(
-        differ(first, left),
-        differ(second, right),
-        equal(place, outcome),
-    ))
 }
 
 pub fn unheld_unread(

@@ -8,8 +8,6 @@
 mod classes;
 mod closure;
 mod congruence;
-#[cfg(test)]
-mod tests;
 
 pub use classes::Classes;
 pub use congruence::{apart, joined};

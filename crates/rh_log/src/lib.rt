@@ -9,10 +9,12 @@ mod branch;
 mod checker;
 mod log;
 mod open;
+mod threads;
 mod truth;
 
 pub use branch::expand;
 pub use checker::{check, root};
 pub use log::{Admission, Log, LogNode};
 pub use open::is_open;
+pub use threads::cross;
 pub use truth::{is_true, width};

@@ -7,6 +7,7 @@ use Rattle.std.proofs.Math.Seq.{take-append_seam}
 use Rattle.std.proofs.lemmas.List.{length-append}
 use Rattle.std.proofs.lemmas.List.Concat.{flat_map-append}
 use Rattle.std.proofs.lemmas.Option.{none-some, same_Some}
+use Rattle.rh_list.proofs.Appended.{pushed}
 use Rattle.rh_log_text.specs.declared.line.Line.{Line}
 use Rattle.rh_log_text.specs.declared.line.Line.TheVariants.{Rule}
 use Rattle.rh_log_text.specs.declared.logs.LogFault.{LogFault}
@@ -274,10 +275,6 @@ end_more [] section ends = refl
 end_more (first ∷ []) section ends = (ends, refl)
 end_more (first ∷ second ∷ others) section ends = (ends.0, end_more (second ∷ others) section ends.1)
 
-pub trees_more : (done : List RuleLogs) (section : RuleLogs) → AllByRecursion (λ whole. AreTrees whole.logs) done → AreTrees section.logs → AllByRecursion (λ whole. AreTrees whole.logs) (done ++ section ∷ [])
-trees_more [] section trees logs = (logs, tt)
-trees_more (first ∷ done) section trees logs = (trees.0, trees_more done section trees.1 logs)
-
 pub is_whole : (text : List ℕ) (next : ℕ) (reader : Reader) (sections : List RuleLogs) → Goes text [] next reader → IsAllOf reader next sections → IsLogText text sections
 is_whole text next Start sections goes all =
     subst (IsLogText text) (sym all) record { lines = subst (λ (lines : List (ℕ × List ℕ)). AllZip Stands lines []) (sym (all_seen text next Start goes)) goes.read.stand; end = tt; trees = tt }
@@ -288,7 +285,7 @@ is_whole text next (Between done section) sections goes all =
       lines = subst (λ (lines : List (ℕ × List ℕ)). AllZip Stands lines (file_lines (done ++ last ∷ []))) (sym (all_seen text next (Between done section) goes))
           (subst (AllZip Stands goes.seen) (sym (file_more done last)) goes.read.stand);
       end = subst (λ n. EndAt n (done ++ last ∷ [])) at_end (end_more done last goes.read.fine.end);
-      trees = trees_more done last goes.read.fine.trees goes.read.fine.logs;
+      trees = pushed (λ (whole : RuleLogs). AreTrees whole.logs) done last goes.read.fine.trees goes.read.fine.logs;
     }
 is_whole text next (Within done section log) sections goes all = absurd all
 

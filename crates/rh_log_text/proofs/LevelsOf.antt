@@ -5,6 +5,7 @@ use Rattle.std.specs.Prelude.{replicate}
 use Rattle.std.specs.List.{AllByRecursion}
 use Rattle.std.proofs.lemmas.List.{length-append, length-replicate}
 use Rattle.std.proofs.lemmas.Bool.{le-leb, lt-leb, ne_eqb}
+use Rattle.rh_list.proofs.Appended.{apart}
 use Rattle.rh_log_text.specs.declared.waiting.Level.{Level}
 use Rattle.rh_log_text.specs.Levels.{depths_of, HasSome}
 use Rattle.rh_log_text.specs.Tree.{awaited_after}
@@ -41,12 +42,7 @@ refused levels front next children is some deep =
     ap (λ (depths : List ℕ). awaited_after depths children) (at_levels levels front next is) ∙ node_refused next.count next.depth children (depths_of front) some deep
 
 pub last_has : (front : List Level) (next : Level) → AllByRecursion HasSome (front ++ next ∷ []) → HasSome next
-last_has [] next all = all.0
-last_has (first ∷ front) next all = last_has front next all.1
-
-pub front_has : (front : List Level) (next : Level) → AllByRecursion HasSome (front ++ next ∷ []) → AllByRecursion HasSome front
-front_has [] next all = tt
-front_has (first ∷ front) next all = (all.0, front_has front next all.1)
+last_has front next all = (apart HasSome front (next ∷ []) all).1.0
 
 -- no level is left where no node is awaited
 pub none_left : (levels : List Level) → AllByRecursion HasSome levels → (length levels == 0) ≡ (length (depths_of levels) == 0)

@@ -7,6 +7,7 @@ use Rattle.std.proofs.lemmas.List.{map-append}
 use Rattle.std.proofs.lemmas.List.Concat.{flat_map-append}
 use Rattle.std.proofs.lemmas.Option.{none-some, same_Some}
 use Rattle.rh_log.specs.declared.log.LogNode.{LogNode}
+use Rattle.rh_list.proofs.Appended.{pushed}
 use Rattle.rh_log_text.specs.declared.line.Line.TheVariants.{Rule, Log, Node}
 use Rattle.rh_log_text.specs.declared.logs.LogFault.{LogFault}
 use Rattle.rh_log_text.specs.declared.logs.LogFault.TheVariants.{NoMemory, Syntax}
@@ -18,7 +19,7 @@ use Rattle.rh_log_text.specs.declared.reader.Unfinished.{Unfinished}
 use Rattle.rh_log_text.specs.Reader.{Awaiting, Reads, advance, open_lines, unfinished_lines}
 use Rattle.rh_log_text.specs.Text.{AreTrees, PlacedLine, file_lines, log_lines, node_line}
 use Rattle.rh_log_text.specs.Tree.{IsTree, awaited, awaited_after, root}
-use Rattle.rh_log_text.proofs.Going.{closed_section, end_more, file_more, trees_more}
+use Rattle.rh_log_text.proofs.Going.{closed_section, end_more, file_more}
 
 pub reads_first : (name : List ℕ) (number : ℕ) → Reads Start number (Rule name) (Between [] record { name = name; line = number; logs = [] })
 reads_first name number = record {
@@ -37,7 +38,7 @@ reads_rule done section name number = record {
   placed = refl;
   advances = refl;
   fine = λ whole. record {
-    trees = trees_more done (closed_section section number) whole.trees whole.logs;
+    trees = pushed (λ (whole : RuleLogs). AreTrees whole.logs) done (closed_section section number) whole.trees whole.logs;
     end = end_more done (closed_section section number) whole.end;
     logs = tt;
   };

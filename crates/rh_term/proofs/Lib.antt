@@ -7,3 +7,4 @@ pub mod Truth
 pub mod Congruence
 pub mod Bridge
 pub mod Placed
+pub mod Found

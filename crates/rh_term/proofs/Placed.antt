@@ -83,34 +83,3 @@ place_stands (first ∷ terms) term (suc place) e =
       | inr f ↦ place_stands terms term place
           (put_off_is (place_in terms term) place (sym (cond-false (same_term first term) (Some zero) (put_off (place_in terms term)) f) ∙ e))
     ]
-
--- where it stands at one place alone, that is its place
-pub stands_place : (terms : List Term) (term : Term) (place : ℕ) → ((other : ℕ) → slice_get terms other ≡ Some term → other ≡ place)
-    → slice_get terms place ≡ Some term → place_in terms term ≡ Some place
-stands_place [] term place alone e = cc
-stands_place (first ∷ terms) term zero alone e =
-    let same : first ≡ term = cc in
-    cond-true (same_term first term) (Some zero) (put_off (place_in terms term)) (subst (λ t. same_term first t ≡ true) same (same_term-refl first))
-stands_place (first ∷ terms) term (suc place) alone e =
-    elim (cases_Bool (same_term first term)) [
-      | inl t ↦ let g : zero ≡ suc place = alone zero (ap Some (same_term-true first term t)) in cc
-      | inr f ↦ cond-false (same_term first term) (Some zero) (put_off (place_in terms term)) f
-          ∙ ap put_off (stands_place terms term place (λ other h. let g : suc other ≡ suc place = alone (suc other) h in cc) e)
-    ]
-
--- where it stands nowhere there is none
-pub no_place : (terms : List Term) (term : Term) → ((place : ℕ) → slice_get terms place ≢ Some term) → place_in terms term ≡ None
-no_place [] term none = refl
-no_place (first ∷ terms) term none =
-    elim (cases_Bool (same_term first term)) [
-      | inl t ↦ absurd (none zero (ap Some (same_term-true first term t)))
-      | inr f ↦ cond-false (same_term first term) (Some zero) (put_off (place_in terms term)) f ∙ ap put_off (no_place terms term (λ place h. none (suc place) h))
-    ]
-
--- the place that was found, in a list of terms
-pub found_place : (terms : List Term) (term : Term) (found : Option ℕ) → IsTermList terms
-    → IfSome found (λ place. slice_get terms place ≡ Some term) → IfNone found ((place : ℕ) → slice_get terms place ≢ Some term)
-    → found ≡ place_in terms term
-found_place terms term None list there missing = sym (no_place terms term missing)
-found_place terms term (Some place) list there missing =
-    sym (stands_place terms term place (λ other h. list.different other place term h there) there)

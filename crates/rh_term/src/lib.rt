@@ -9,8 +9,6 @@ mod laws;
 mod obligation;
 mod term;
 mod terms;
-#[cfg(test)]
-mod tests;
 
 pub use clause::{Clause, Lit};
 pub use laws::{denotations_by_parts, open_partitions};

@@ -3,7 +3,7 @@ use rh_il::Op;
 
 /// A term over values and stores. A part of a term is named by its place in the list of terms, and
 /// a metavariable by its number in the rule.
-#[derive(Clone, Copy, Debug, PartialEq, Eq)]
+#[derive(Clone, Copy, Debug, PartialEq, Eq, Hash)]
 pub enum Term {
     /// A number.
     Num(i64),

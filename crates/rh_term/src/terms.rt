@@ -5,13 +5,14 @@ ghost use Rattle.rh_term.specs.Place.{place_in};
 ghost use Rattle.rh_term.specs.Term.{HasParts, HasNumber, IsAdded, IsTermList};
 
 use crate::term::Term;
+use indexmap::IndexSet;
 use std::alloc::{AllocError, Global};
 use std::marker::Model;
 
 /// A list of different terms, in which the parts of each term stand before it.
 #[derive(Drop)]
 pub struct Terms {
-    items: Vec<Term>,
+    items: IndexSet<Term>,
 }
 
 impl Model for Terms {
@@ -22,9 +23,9 @@ impl Model for Terms {
 
     ghost use Rattle.rh_term.specs.Term.{IsTermList};
 
-    ghost view = { λ a. a.items.items };
+    ghost view = { λ a. a.items.keys };
 
-    ghost invariant = { λ a. IsTermList a.items.items × (length a.items.items < 2 ^ 32) };
+    ghost invariant = { λ a. IsTermList a.items.keys × (length a.items.keys < 2 ^ 32) };
 }
 
 impl Terms {
@@ -33,7 +34,7 @@ impl Terms {
         ensures { result ≡ [] }
     {
         Terms {
-            items: Vec::new(alloc),
+            items: IndexSet::new(alloc),
         }
     }
 
@@ -49,7 +50,7 @@ impl Terms {
         }
         keeps_range(term);
         let place = self.items.len() as u32;
-        self.items.push(term)?;
+        let _new = self.items.insert(term)?;
         Ok(place)
     }
 
@@ -59,14 +60,15 @@ impl Terms {
         ensures missing { IfNone result ((place : ℕ) → slice_get self.now place ≢ Some term) }
         ensures place { result ≡ place_in self.now term }
     {
-        place_of(self.items.as_slice(), term)
+        let place = self.items.get_index_of(&term)?;
+        Some(place as u32)
     }
 
     /// The term at a place.
     pub fn get(&self, place: u32) -> Option<Term>
         ensures { result ≡ slice_get self.now place }
     {
-        self.items.get(place as usize).copied()
+        self.items.get_index(place as usize).copied()
     }
 
     /// How many terms there are.
@@ -85,19 +87,6 @@ impl Terms {
     {
         self.items.as_slice()
     }
-}
-
-fn place_of(terms: &[Term], term: Term) -> Option<u32>
-    requires { length terms.now < 2 ^ 32 }
-    ensures found { IfSome result (λ place. slice_get terms.now place ≡ Some term) }
-    ensures missing { IfNone result ((place : ℕ) → slice_get terms.now place ≢ Some term) }
-{
-    for (place, listed) in terms.iter().enumerate() {
-        if *listed == term {
-            return Some(place as u32);
-        }
-    }
-    None
 }
 
 // the type of a number bounds it
