@@ -1,5 +1,6 @@
 pub mod Faults
 pub mod Reading
 pub mod Writing
+pub mod Untold
 pub mod MemoryShelf
 pub mod MemorySink

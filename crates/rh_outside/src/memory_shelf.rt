@@ -1,6 +1,6 @@
 //! A shelf in memory.
-ghost use Rattle.std.specs.Prelude.{ℕ, ◌≡◌, ◌≤◌, ◌↔◌, ◌⊎◌, List, Option, None, length, Contains, IfOk, IfSome, IsErr, OnErr, is_err, option_copied, if◌then◌else◌};
-ghost use Rattle.rh_outside.specs.Faults.{Rises, next_count};
+ghost use Rattle.std.specs.Prelude.{ℕ, ◌≡◌, ◌≤◌, ◌↔◌, ◌⊎◌, min, List, Option, None, length, drop, Contains, IfOk, IfSome, IsErr, OnErr, is_err, option_copied};
+ghost use Rattle.rh_outside.specs.Faults.{Rises, count_after, next_count};
 ghost use Rattle.rh_outside.specs.Reading.{ReadsAt};
 ghost use Rattle.rh_outside.specs.MemoryShelf.{bytes_named};
 
@@ -63,9 +63,11 @@ impl Shelf for MemShelf {
         ensures within { IfOk result (λ count. count ≤ length buf.new) }
         ensures bytes { IfOk result (λ count. IfSome (bytes_named self.old.files name.now) (λ bytes. ReadsAt bytes at count buf.new)) }
 
-        // It fails exactly at the numbers that it was given, and where no file has the name.
+        // It fails exactly at the numbers that it was given, and where no file has the name. Any other
+        // call gives all that the buffer takes and the file has.
         ensures fails { IsErr result ↔ (Contains self.old.fails (next_count self.old.calls) ⊎ (bytes_named self.old.files name.now ≡ None)) }
-        ensures after { self.new ≡ record self.old { calls = next_count self.old.calls; faults = (if is_err result then next_count self.old.faults else self.old.faults) } }
+        ensures count { IfOk result (λ count. IfSome (bytes_named self.old.files name.now) (λ bytes. count ≡ min (length buf.new) (length (drop at bytes)))) }
+        ensures after { self.new ≡ record self.old { calls = next_count self.old.calls; faults = count_after (is_err result) self.old.faults } }
     {
         self.calls = self.calls.saturating_add(1);
         if self.fails.contains(&self.calls) {
@@ -94,7 +96,7 @@ fn find<'a>(files: &'a [NamedFile], name: &str) -> Option<&'a [u8]>
 
 /// Copies what the buffer takes of the bytes from a place on, and answers how many bytes it copied.
 fn copy_from(bytes: &[u8], at: u64, buf: &mut [u8]) -> usize
-    ensures within { result ≤ length buf.new }
+    ensures count { result ≡ min (length buf.new) (length (drop at bytes.now)) }
     ensures bytes { ReadsAt bytes.now at result buf.new }
 {
     let rest = match usize::try_from(at) {

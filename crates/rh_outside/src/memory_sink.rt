@@ -1,7 +1,7 @@
 //! A sink in memory.
 ghost use Rattle.std.specs.Prelude.{ℕ, ◌≡◌, ◌<◌, ◌≤◌, ◌+◌, ◌-◌, ◌++◌, ◌↔◌, [], min, List, Some, length, take, Contains, IfOk, IsErr, IsOk, OnErr, OnOk, is_err, if◌then◌else◌};
-ghost use Rattle.rh_outside.specs.Faults.{Rises, next_count};
-ghost use Rattle.rh_outside.specs.Writing.{appended};
+ghost use Rattle.rh_outside.specs.Faults.{Rises, count_after, next_count};
+ghost use Rattle.rh_outside.specs.Writing.{appended, is_write_fault};
 
 use crate::shelf::Failed;
 use crate::sink::Sink;
@@ -73,7 +73,8 @@ impl Sink for MemSink {
         ensures fails { IsErr result ↔ Contains self.old.fails (next_count self.old.calls) }
         ensures takes { IfOk result (λ count. count ≡ min (min (length piece.now) self.old.piece) (self.old.room - length self.old.written)) }
         ensures stays { (self.new.room ≡ self.old.room) × (self.new.piece ≡ self.old.piece) × (self.new.fails ≡ self.old.fails) }
-        ensures counted { self.new.calls ≡ next_count self.old.calls }
+        ensures called { self.new.calls ≡ next_count self.old.calls }
+        ensures counted { self.new.faults ≡ count_after (is_write_fault piece.now result) self.old.faults }
     {
         self.calls = self.calls.saturating_add(1);
         if self.fails.contains(&self.calls) {

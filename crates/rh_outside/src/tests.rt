@@ -50,6 +50,59 @@ fn whole_files_are_read(rt: HostRuntime) -> Result<(), Fail> {
     Ok(())
 }
 
+/// A file of so many bytes, with the place and the length of the buffer of each call.
+#[derive(Drop)]
+struct AskedShelf {
+    len: u64,
+    asked: Vec<(u64, usize)>,
+    faults: u64,
+}
+
+impl Shelf for AskedShelf {
+    ghost use Rattle.rh_outside.specs.Untold.{untold};
+
+    ghost holds = { λ s name. untold };
+
+    ghost faults = { λ s name. s.faults };
+
+    fn read_at(&mut self, name: &str, at: u64, buf: &mut [u8]) -> Result<usize, Failed> {
+        if name != "f" || self.asked.push((at, buf.len())).is_err() {
+            self.faults = self.faults.saturating_add(1);
+            return Err(Failed);
+        }
+        let rest = self.len.saturating_sub(at) as usize;
+        Ok(rest.min(buf.len()))
+    }
+}
+
+/// What `read_whole` asks of a file of so many bytes.
+fn asked_of(alloc: Global, len: u64, limit: u32) -> Vec<(u64, usize)> {
+    let mut shelf = AskedShelf {
+        len,
+        asked: Vec::new(alloc),
+        faults: 0,
+    };
+    let _read = read_whole(alloc, &mut shelf, "f", limit as usize);
+    shelf.asked
+}
+
+#[test]
+fn files_are_read_in_pieces_up_to_one_byte_past_the_limit(rt: HostRuntime) -> Result<(), Fail> {
+    let whole = asked_of(rt.alloc(), 200_000, 200_000);
+    let pieces = [
+        (0, 65536),
+        (65536, 65536),
+        (131_072, 65536),
+        (196_608, 3393),
+        (200_000, 1),
+    ];
+    assert_eq!(rt; whole.as_slice(), pieces.as_slice());
+    let too_long = asked_of(rt.alloc(), 200_000, 131_072);
+    let pieces = [(0, 65536), (65536, 65536), (131_072, 1)];
+    assert_eq!(rt; too_long.as_slice(), pieces.as_slice());
+    Ok(())
+}
+
 #[test]
 fn whole_outputs_are_written(rt: HostRuntime) -> Result<(), Fail> {
     let alloc = rt.alloc();
@@ -61,14 +114,26 @@ fn whole_outputs_are_written(rt: HostRuntime) -> Result<(), Fail> {
     Ok(())
 }
 
+/// More bytes than a piece has, which tell at each place which place it is.
+fn counted_up(alloc: Global) -> Result<Vec<u8>, AllocError> {
+    let mut bytes = Vec::new(alloc);
+    for number in 0..20_000u32 {
+        bytes.extend_from_slice(&number.to_be_bytes())?;
+    }
+    Ok(bytes)
+}
+
 #[test]
 fn the_system_gives_what_it_took(rt: HostRuntime) -> Result<(), Fail> {
-    fs::write(&rt, "kept", "on disk").ok().ok_or("not written")?;
+    let long = counted_up(rt.alloc())?;
+    fs::write(&rt, "long", long.as_slice())
+        .ok()
+        .ok_or("not written")?;
     let mut shelf = FileShelf::new(&rt);
-    let bytes = read_whole(rt.alloc(), &mut shelf, "kept", 100)
+    let bytes = read_whole(rt.alloc(), &mut shelf, "long", 100_000)
         .ok()
         .ok_or("not read")?;
-    assert_eq!(rt; bytes.as_slice(), b"on disk".as_slice());
+    assert!(rt; bytes == long);
     for missing in ["missing", "."] {
         let fault = read_whole(rt.alloc(), &mut shelf, missing, 100);
         assert!(rt; matches!(fault, Err(ReadError::Fault)), "{missing}");

@@ -59,7 +59,7 @@ pub fn read_whole<S: Shelf>(
     Err(ReadError::TooLong)
 }
 
-/// Reads what comes behind the bytes into the buffer, and puts it behind them.
+/// Reads the bytes after those that were read so far into the buffer, and appends them.
 fn read_piece<S: Shelf>(
     shelf: &mut S,
     name: &str,

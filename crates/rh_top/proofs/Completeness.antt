@@ -1,46 +1,69 @@
 -- On good files a call of `opt` is done, or memory ran out.
-use Rattle.std.proofs.Common.{ℕ, ◌≡◌, List, [], ◌∷◌, Option, inl, inr, codes, sym, ◌∙◌, subst, arith}
+use Rattle.std.proofs.Common.{ℕ, ◌≡◌, List, [], ◌∷◌, Some, codes, refl, sym, ◌∙◌, subst}
 use Rattle.std.specs.Prelude.{IfSome}
 use Rattle.rh_admit.specs.Rules.{IsFirstExcess}
+use Rattle.rh_rule.specs.RuleFiles.{Rules}
 use Rattle.rh_rule_text.proofs.OneReading.{one_rule_file}
 use Rattle.rh_top.specs.declared.status.Large.TheVariants.{Terms}
+use Rattle.rh_top.specs.declared.status.Part.{Part}
 use Rattle.rh_top.specs.declared.status.Part.TheVariants.{Rules as RulesPart, Program as ProgramPart}
 use Rattle.rh_top.specs.declared.status.Status.{Status}
 use Rattle.rh_top.specs.declared.status.Status.TheVariants.{Done, ReadFault, TooLarge, WriteFault, NoMemory, Unbuilt}
-use Rattle.rh_top.specs.Complete.{Holds, IsGood, IsDoneOrNothing}
-use Rattle.rh_top.specs.Ends.{Ends, IsTooLarge, IsUnbuilt}
-use Rattle.rh_top.specs.Opt.{AreOtherRules, IsBuiltRules, IsOpt, IsOtherProgram}
+use Rattle.rh_top.specs.Call.{Reads, Writes, ReadFails}
+use Rattle.rh_top.specs.Complete.{IsGood, IsDoneOrNothing}
+use Rattle.rh_top.specs.Ends.{Ends, IsRefused, at_rules, at_program, at_terms}
+use Rattle.rh_top.specs.Files.{AcceptsRules, AreOtherRules, IsBuiltRules, IsOpt, IsOtherProgram}
+use Rattle.rh_top.specs.Steps.{HaveFewTerms, RefusesFile, RefusesTerms}
 
-told : (P : List ℕ → Type 0) (held : List ℕ → Option (List ℕ)) (name bytes : List ℕ) → Holds held name bytes → IfSome (held name) P → P bytes
-told P held name bytes holds some = subst (λ o. IfSome o P) holds.are some
+-- a file that is accepted and of which no read failed is refused where memory ran out alone
+file_memory : (part : Part) (failed other : Type 0) (status : Status) → (failed → ⊥) → (other → ⊥) → RefusesFile part failed other status → status ≡ NoMemory
+file_memory part failed other Done calm accepted refuses = absurd refuses
+file_memory part failed other (ReadFault which) calm accepted refuses = absurd (calm refuses.1)
+file_memory part failed other (TooLarge large) calm accepted refuses = absurd refuses
+file_memory part failed other (WriteFault count) calm accepted refuses = absurd refuses
+file_memory part failed other NoMemory calm accepted refuses = refl
+file_memory part failed other (Unbuilt number) calm accepted refuses = absurd (accepted refuses.1)
 
-module _ (held : List ℕ → Option (List ℕ)) (faults faults' : List ℕ → ℕ) (sunk sunk' : ℕ) (rules program : List ℕ) (good : IsGood held faults faults' sunk sunk' rules program) where
-  rules_are_built : AreOtherRules good.rules_bytes → ⊥
-  rules_are_built (inl long) = let within = good.rules_held.within in omega (arith, long, within)
-  rules_are_built (inr other) = other good.file good.rules_built
+no_excess : (file : Rules) (rule count : ℕ) → HaveFewTerms file → IsFirstExcess file.schemas file.rules rule count → ⊥
+no_excess file rule count few excess =
+    let none = few rule excess.rule excess.stands in
+    let large = excess.large in
+    absurd cc
 
-  program_is_built : IsOtherProgram good.program_bytes → ⊥
-  program_is_built (inl long) = let within = good.program_held.within in omega (arith, long, within)
-  program_is_built (inr other) = other good.procs good.program_built
+terms_memory : (file : Rules) (status : Status) → HaveFewTerms file → RefusesTerms file status → status ≡ NoMemory
+terms_memory file Done few refuses = absurd refuses
+terms_memory file (ReadFault which) few refuses = absurd refuses
+terms_memory file (TooLarge (Terms rule count)) few refuses = absurd (no_excess file rule count few refuses)
+terms_memory file (WriteFault count) few refuses = absurd refuses
+terms_memory file NoMemory few refuses = refl
+terms_memory file (Unbuilt number) few refuses = absurd refuses
 
-  not_unbuilt : (number : ℕ) → IsUnbuilt held rules program number → ⊥
-  not_unbuilt number (inl one) = rules_are_built (told AreOtherRules held rules good.rules_bytes good.rules_held one.1)
-  not_unbuilt number (inr two) = program_is_built (told IsOtherProgram held program good.program_bytes good.program_held two.2)
+module _ (reads : Reads) (writes : Writes) (rules program : List ℕ) (good : IsGood reads writes rules program) where
+  rules_told : (P : List ℕ → Type 0) → IfSome (reads.holds rules) P → P good.rules_bytes
+  rules_told P some = subst (λ o. IfSome o P) good.rules_held some
 
-  not_large : (rule count : ℕ) → IsTooLarge held rules program rule count → ⊥
-  not_large rule count large =
-      let built : IsBuiltRules good.rules_bytes large.file = told (λ bytes. IsBuiltRules bytes large.file) held rules good.rules_bytes good.rules_held large.read.rules_read in
-      let same : large.file ≡ good.file = one_rule_file good.rules_bytes large.file good.file built.text good.rules_built.text in
-      good.small rule count (subst (λ f. IsFirstExcess f.schemas f.rules rule count) same large.excess)
+  program_told : (P : List ℕ → Type 0) → IfSome (reads.holds program) P → P good.program_bytes
+  program_told P some = subst (λ o. IfSome o P) good.program_held some
 
-  pub done_or_nothing : (written written' : Option (List ℕ)) (status : Status) → Ends held faults faults' written written' sunk sunk' rules program status → IsDoneOrNothing written written' status
-  done_or_nothing written written' Done ends = tt
-  done_or_nothing written written' (ReadFault RulesPart) ends = good.rules_calm ends.0
-  done_or_nothing written written' (ReadFault ProgramPart) ends = good.program_calm ends.0
-  done_or_nothing written written' (TooLarge (Terms rule count)) ends = not_large rule count ends.0
-  done_or_nothing written written' (WriteFault count) (text, made, wrote, less, rises) = good.sink_calm rises
-  done_or_nothing written written' NoMemory ends = ends
-  done_or_nothing written written' (Unbuilt number) ends = not_unbuilt number ends.0
+  few : (file : Rules) → AcceptsRules reads rules file → HaveFewTerms file
+  few file accepts =
+      let accepted : IsBuiltRules good.rules_bytes file = rules_told (λ bytes. IsBuiltRules bytes file) accepts in
+      subst HaveFewTerms (one_rule_file good.rules_bytes good.file file good.rules_accepted.text accepted.text) good.few_terms
+
+  memory : (status : Status) → IsRefused reads rules program status → status ≡ NoMemory
+  memory status (at_rules refuses) =
+      file_memory RulesPart (ReadFails reads rules) (IfSome (reads.holds rules) AreOtherRules) status good.rules_calm (λ others. rules_told AreOtherRules others good.file good.rules_accepted) refuses
+  memory status (at_program file accepts refuses) =
+      file_memory ProgramPart (ReadFails reads program) (IfSome (reads.holds program) IsOtherProgram) status good.program_calm (λ others. program_told IsOtherProgram others good.procs good.program_accepted) refuses
+  memory status (at_terms file procs accepts accepts' refuses) = terms_memory file status (few file accepts) refuses
+
+  pub done_or_nothing : (status : Status) → Ends reads writes rules program status → IsDoneOrNothing writes status
+  done_or_nothing Done ends = tt
+  done_or_nothing (ReadFault part) ends = let is : ReadFault part ≡ NoMemory = memory (ReadFault part) ends.0 in absurd cc
+  done_or_nothing (TooLarge large) ends = let is : TooLarge large ≡ NoMemory = memory (TooLarge large) ends.0 in absurd cc
+  done_or_nothing (WriteFault count) (text, made, wrote, less, fails) = good.sink_calm fails
+  done_or_nothing NoMemory ends = ends.1
+  done_or_nothing (Unbuilt number) ends = let is : Unbuilt number ≡ NoMemory = memory (Unbuilt number) ends.0 in absurd cc
 
 -- words are those of `opt` for one pair of names alone
 one_pair : (words : List (List ℕ)) (first second rules program : List ℕ) → IsOpt words first second → IsOpt words rules program → (first ≡ rules) × (second ≡ program)
@@ -48,11 +71,9 @@ one_pair words first second rules program one other =
     let same : codes "opt" ∷ first ∷ second ∷ [] ≡ codes "opt" ∷ rules ∷ program ∷ [] = sym one.words_are ∙ other.words_are in
     (cc, cc)
 
--- the same of the names that the words give
-pub done_by_words : (words : List (List ℕ)) (held : List ℕ → Option (List ℕ)) (faults faults' : List ℕ → ℕ) (written written' : Option (List ℕ)) (sunk sunk' : ℕ) (first second rules program : List ℕ) (status : Status)
-    → IsOpt words first second → Ends held faults faults' written written' sunk sunk' first second status → IsOpt words rules program → IsGood held faults faults' sunk sunk' rules program → IsDoneOrNothing written written' status
-done_by_words words held faults faults' written written' sunk sunk' first second rules program status one ends other good =
+-- so what is said of the names that were found in the words is said of all names that the words give
+pub ends_by_words : (words : List (List ℕ)) (reads : Reads) (writes : Writes) (first second rules program : List ℕ) (status : Status)
+    → IsOpt words first second → Ends reads writes first second status → IsOpt words rules program → Ends reads writes rules program status
+ends_by_words words reads writes first second rules program status one ends other =
     let same = one_pair words first second rules program one other in
-    done_or_nothing held faults faults' sunk sunk' rules program good written written' status
-    (subst (λ r. Ends held faults faults' written written' sunk sunk' r program status) same.0
-    (subst (λ p. Ends held faults faults' written written' sunk sunk' first p status) same.1 ends))
+    subst (λ r. Ends reads writes r program status) same.0 (subst (λ p. Ends reads writes first p status) same.1 ends)

@@ -1,69 +1,56 @@
 -- Why a call of `opt` is refused, put together from its steps.
 use Rattle.std.proofs.Common.{ℕ, ◌≡◌, ◌≤◌, List, Option, inl, inr, subst, arith}
 use Rattle.std.specs.Prelude.{IfSome}
-use Rattle.rh_il.specs.declared.program.Proc.{Proc}
 use Rattle.rh_outside.specs.Faults.{Rises}
+use Rattle.rh_il.specs.declared.program.Proc.{Proc}
 use Rattle.rh_rule.specs.RuleFiles.{Rules}
-use Rattle.rh_top.specs.declared.status.Large.TheVariants.{Terms}
-use Rattle.rh_top.specs.declared.status.Part.TheVariants.{Rules as RulesPart, Program as ProgramPart}
+use Rattle.rh_top.specs.declared.status.Part.{Part}
+use Rattle.rh_top.specs.declared.status.Part.TheVariants.{Program as ProgramPart}
 use Rattle.rh_top.specs.declared.status.Status.{Status}
 use Rattle.rh_top.specs.declared.status.Status.TheVariants.{Done, ReadFault, TooLarge, WriteFault, NoMemory, Unbuilt}
-use Rattle.rh_top.specs.Ends.{Ends}
-use Rattle.rh_top.specs.Input.{RefusesRulesIn, RefusesProgramIn}
-use Rattle.rh_top.specs.Made.{IsRefused, IsUnmade, RefusesWith}
-use Rattle.rh_top.specs.Opt.{AreRead, IsBuiltRules, IsBuiltProgram, IsOtherProgram}
+use Rattle.rh_top.specs.Call.{Reads, Writes, WroteNothing}
+use Rattle.rh_top.specs.Ends.{Ends, IsRefused, at_rules, at_program, at_terms}
+use Rattle.rh_top.specs.Files.{AcceptsRules, IsBuiltProgram, IsOtherProgram}
+use Rattle.rh_top.specs.Steps.{RefusesFile, RefusesTerms}
 
 -- a count that rose after it did not fall rose
 rises_from : (old middle new : ℕ) → old ≤ middle → Rises middle new → Rises old new
 rises_from old middle new le (inl rose) = inl (omega (arith, le, rose))
 rises_from old middle new le (inr last) = inr last
 
-module _ (held : List ℕ → Option (List ℕ)) (faults faults' : List ℕ → ℕ) (rules program : List ℕ) where
-  pub rules_refused : (status : Status) → RefusesRulesIn (held rules) (faults rules) (faults' rules) status → IsRefused held faults faults' rules program status
-  rules_refused Done refuses = refuses
-  rules_refused (ReadFault RulesPart) refuses = refuses.1
-  rules_refused (ReadFault ProgramPart) refuses = let absurdity = refuses.0 in absurd cc
-  rules_refused (TooLarge large) refuses = absurd refuses
-  rules_refused (WriteFault count) refuses = refuses
-  rules_refused NoMemory refuses = refuses
-  rules_refused (Unbuilt number) refuses = inl refuses
+-- a refusal for one cause is one for a weaker cause
+refuses_for : (part : Part) (failed failed' other other' : Type 0) (status : Status) → (failed → failed') → (other → other') → RefusesFile part failed other status → RefusesFile part failed' other' status
+refuses_for part failed failed' other other' Done fails leads refuses = refuses
+refuses_for part failed failed' other other' (ReadFault which) fails leads refuses = (refuses.0, fails refuses.1)
+refuses_for part failed failed' other other' (TooLarge large) fails leads refuses = refuses
+refuses_for part failed failed' other other' (WriteFault count) fails leads refuses = refuses
+refuses_for part failed failed' other other' NoMemory fails leads refuses = refuses
+refuses_for part failed failed' other other' (Unbuilt number) fails leads refuses = (refuses.0, leads refuses.1)
 
-  pub program_refused : (file : Rules) (holds : Option (List ℕ)) (middle : ℕ) (status : Status) → IfSome (held rules) (λ bytes. IsBuiltRules bytes file) → holds ≡ held program → faults program ≤ middle
-      → RefusesProgramIn holds middle (faults' program) status → IsRefused held faults faults' rules program status
-  program_refused file holds middle Done built same le refuses = refuses
-  program_refused file holds middle (ReadFault RulesPart) built same le refuses = let absurdity = refuses.0 in absurd cc
-  program_refused file holds middle (ReadFault ProgramPart) built same le refuses = rises_from (faults program) middle (faults' program) le refuses.1
-  program_refused file holds middle (TooLarge large) built same le refuses = absurd refuses
-  program_refused file holds middle (WriteFault count) built same le refuses = refuses
-  program_refused file holds middle NoMemory built same le refuses = refuses
-  program_refused file holds middle (Unbuilt number) built same le refuses =
-      inr (refuses.0, (file, built), subst (λ o. IfSome o IsOtherProgram) same refuses.1)
+-- the steps after the rule file, which began when that had been read
+module _ (reads : Reads) (rules program : List ℕ) (file : Rules) (accepts : AcceptsRules reads rules file) (holds : Option (List ℕ)) (same : holds ≡ reads.holds program) where
+  pub program_refused : (middle : ℕ) (status : Status) → reads.faults_before program ≤ middle → RefusesFile ProgramPart (Rises middle (reads.faults_after program)) (IfSome holds IsOtherProgram) status → IsRefused reads rules program status
+  program_refused middle status le refuses =
+      at_program file accepts (refuses_for ProgramPart _ _ _ _ status (rises_from _ _ _ le) (subst (λ o. IfSome o IsOtherProgram) same) refuses)
 
-  pub read_both : (file : Rules) (procs : List Proc) (holds : Option (List ℕ)) → IfSome (held rules) (λ bytes. IsBuiltRules bytes file) → holds ≡ held program → IfSome holds (λ bytes. IsBuiltProgram bytes procs)
-      → AreRead held rules program file procs
-  read_both file procs holds first same second = record { rules_read = first; program_read = subst (λ o. IfSome o (λ bytes. IsBuiltProgram bytes procs)) same second }
+  pub terms_refused : (procs : List Proc) (status : Status) → IfSome holds (λ bytes. IsBuiltProgram bytes procs) → RefusesTerms file status → IsRefused reads rules program status
+  terms_refused procs status accepts' refuses = at_terms file procs accepts (subst (λ o. IfSome o (λ bytes. IsBuiltProgram bytes procs)) same accepts') refuses
 
-  pub unmade_refused : (file : Rules) (procs : List Proc) (status : Status) → AreRead held rules program file procs → IsUnmade file status → IsRefused held faults faults' rules program status
-  unmade_refused file procs Done read unmade = unmade
-  unmade_refused file procs (ReadFault part) read unmade = absurd unmade
-  unmade_refused file procs (TooLarge (Terms rule count)) read unmade = record { file = file; procs = procs; read = read; excess = unmade }
-  unmade_refused file procs (WriteFault count) read unmade = unmade
-  unmade_refused file procs NoMemory read unmade = unmade
-  unmade_refused file procs (Unbuilt number) read unmade = absurd unmade
+module _ (reads : Reads) (writes : Writes) (rules program : List ℕ) where
+  not_done : IsRefused reads rules program Done → ⊥
+  not_done (at_rules refuses) = refuses
+  not_done (at_program file accepts refuses) = refuses
+  not_done (at_terms file procs accepts accepts' refuses) = refuses
 
-  -- with a rule file that was read
-  pub with_refused : (file : Rules) (holds : Option (List ℕ)) (middle : ℕ) (status : Status) → IfSome (held rules) (λ bytes. IsBuiltRules bytes file) → holds ≡ held program → faults program ≤ middle
-      → RefusesWith holds middle (faults' program) file status → IsRefused held faults faults' rules program status
-  with_refused file holds middle status built same le (inl refuses) = program_refused file holds middle status built same le refuses
-  with_refused file holds middle status built same le (inr unmade) =
-      unmade_refused file unmade.1.0 status (read_both file unmade.1.0 holds built same unmade.1.1) unmade.0
+  no_write_fault : (count : ℕ) → IsRefused reads rules program (WriteFault count) → ⊥
+  no_write_fault count (at_rules refuses) = refuses
+  no_write_fault count (at_program file accepts refuses) = refuses
+  no_write_fault count (at_terms file procs accepts accepts' refuses) = refuses
 
-  pub refused_ends : (written written' : Option (List ℕ)) (sunk sunk' : ℕ) (status : Status) → written' ≡ written → IsRefused held faults faults' rules program status
-      → Ends held faults faults' written written' sunk sunk' rules program status
-  refused_ends written written' sunk sunk' Done same refused = absurd refused
-  refused_ends written written' sunk sunk' (ReadFault RulesPart) same refused = (refused, same)
-  refused_ends written written' sunk sunk' (ReadFault ProgramPart) same refused = (refused, same)
-  refused_ends written written' sunk sunk' (TooLarge (Terms rule count)) same refused = (refused, same)
-  refused_ends written written' sunk sunk' (WriteFault count) same refused = absurd refused
-  refused_ends written written' sunk sunk' NoMemory same refused = same
-  refused_ends written written' sunk sunk' (Unbuilt number) same refused = (refused, same)
+  pub refused_ends : (status : Status) → IsRefused reads rules program status → WroteNothing writes → Ends reads writes rules program status
+  refused_ends Done refused same = absurd (not_done refused)
+  refused_ends (ReadFault part) refused same = (refused, same)
+  refused_ends (TooLarge large) refused same = (refused, same)
+  refused_ends (WriteFault count) refused same = absurd (no_write_fault count refused)
+  refused_ends NoMemory refused same = (refused, same)
+  refused_ends (Unbuilt number) refused same = (refused, same)

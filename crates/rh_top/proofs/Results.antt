@@ -1,10 +1,10 @@
 -- What `opt` prints is its result.
-use Rattle.std.proofs.Common.{ℕ, zero, suc, ◌≡◌, Bool, true, false, ◌&&◌, List, [], ◌∷◌, ◌++◌, map, length, Some, Result, Ok, Err, refl, ap, sym, ◌∙◌, subst, arith}
+use Rattle.std.proofs.Common.{ℕ, zero, suc, ◌≡◌, Bool, true, false, ◌&&◌, List, [], ◌∷◌, ◌++◌, map, length, Some, None, Result, Ok, Err, refl, ap, sym, ◌∙◌, subst, arith}
 use Rattle.std.proofs.lemmas.Bool.{and_parts, eqb-true}
 use Rattle.std.specs.List.{AllZip, list_all}
 use Rattle.std.specs.Prelude.{IfOk, slice_get}
 use Rattle.rh_list.specs.Each.{Each}
-use Rattle.rh_admit.specs.Rules.{IsTold}
+use Rattle.rh_admit.specs.Rules.{IsTold, excess}
 use Rattle.rh_il.specs.declared.program.Proc.{Proc}
 use Rattle.rh_il.specs.declared.program.Stmt.{Stmt}
 use Rattle.rh_il.specs.declared.program.Stmt.TheVariants.{Skip, Copy, Address, Load, Compute, Write, New, Call, Goto, If, Return}
@@ -38,6 +38,7 @@ use Rattle.rh_transform.specs.Bare.{IsBare}
 use Rattle.rh_transform.proofs.FromFiles.{bare_rules}
 use Rattle.rh_lift.specs.Runs.{AreSound, AreStraight, is_call}
 use Rattle.rh_lift.proofs.Returned.{returns_kept}
+use Rattle.rh_top.specs.Steps.{HaveFewTerms}
 use Rattle.rh_top.specs.Stage.{is_built_conclusion, is_built_file, is_built_form, is_built_program, is_built_rule, is_built_stmt, is_empty}
 
 -- ---- rulings
@@ -66,6 +67,17 @@ sound_by schemas (r ∷ rules) (a ∷ admissions) told zero rule read admitted =
     let is : ruling_of a ≡ Admitted = cc in
     subst (IsSound schemas) same (sound_one schemas r a told.0 is)
 sound_by schemas (r ∷ rules) (a ∷ admissions) told (suc number) rule read admitted = sound_by schemas rules admissions told.1 number rule read admitted
+
+few_by : (schemas : List Schema) (rules : List Rule) (admissions : List Admission) → AllZip (IsTold schemas) rules admissions → Each (λ rule. excess schemas rule ≡ None) rules
+few_by schemas [] [] told number rule read = cc
+few_by schemas [] (a ∷ admissions) told number rule read = absurd told
+few_by schemas (r ∷ rules) [] told number rule read = absurd told
+few_by schemas (r ∷ rules) (a ∷ admissions) told zero rule read = let same : r ≡ rule = cc in subst (λ x. excess schemas x ≡ None) same told.0.small
+few_by schemas (r ∷ rules) (a ∷ admissions) told (suc number) rule read = few_by schemas rules admissions told.1 number rule read
+
+-- rules that are ruled on have few terms
+pub few_terms : (file : Rules) (admissions : List Admission) → AllZip (IsTold file.schemas) file.rules admissions → HaveFewTerms file
+few_terms file admissions told = few_by file.schemas file.rules admissions told
 
 -- ---- what is built
 

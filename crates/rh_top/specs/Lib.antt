@@ -1,8 +1,8 @@
 pub mod Status
 pub mod Stage
-pub mod Opt
-pub mod Input
+pub mod Call
+pub mod Files
+pub mod Steps
 pub mod Result
 pub mod Ends
-pub mod Made
 pub mod Complete

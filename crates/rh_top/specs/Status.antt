@@ -21,13 +21,13 @@ part_name Rules = codes "rules"
 part_name Program = codes "program"
 
 abbrev pub large_text : Large → List ℕ
-large_text (Terms rule count) = codes "too large: " ++ decimal count ++ codes " terms at rule " ++ decimal rule
+large_text (Terms rule count) = decimal count ++ codes " terms at rule " ++ decimal rule
 
 -- what a refusal says, without the program's name
 abbrev pub reason_of : Status → List ℕ
 reason_of Done = []
 reason_of (ReadFault part) = codes "cannot read: " ++ part_name part
-reason_of (TooLarge large) = large_text large
+reason_of (TooLarge large) = codes "too large: " ++ large_text large
 reason_of (WriteFault count) = codes "cannot write after " ++ decimal count
 reason_of NoMemory = codes "out of memory"
 reason_of (Unbuilt number) = codes "not built: " ++ decimal number

@@ -1,10 +1,11 @@
-//! Reading the two files.
-ghost use Rattle.std.specs.Prelude.{ℕ, ◌≡◌, ◌≤◌, true, List, length, IfOk, IfErr, IfSome};
+//! The two files, from the shelf to what they are texts of.
+ghost use Rattle.std.specs.Prelude.{ℕ, ◌≡◌, ◌<◌, ◌≤◌, true, List, length, IfOk, IfErr, IfSome};
+ghost use Rattle.rh_outside.specs.Faults.{Rises};
 ghost use Rattle.rh_rule_source.specs.declared.source.SourceFile.{SourceFile};
 ghost use Rattle.rh_rule_source.specs.Spelling.{Spells};
-ghost use Rattle.rh_top.specs.Input.{IsUnread, RefusesProgram, RefusesProgramIn, RefusesRules, RefusesRulesIn, of_program, of_rules, unbuilt};
-ghost use Rattle.rh_top.specs.Opt.{IsBuiltProgram, IsBuiltRules};
+ghost use Rattle.rh_top.specs.Files.{AreOtherRules, IsBuiltProgram, IsBuiltRules, IsOtherProgram, most_bytes};
 ghost use Rattle.rh_top.specs.Stage.{is_built_file, is_built_program};
+ghost use Rattle.rh_top.specs.Steps.{RefusesFile, of_program, of_rules, part_number};
 
 use crate::stage::{is_built_file, is_built_program};
 use crate::status::{Part, Status};
@@ -18,9 +19,9 @@ use std::alloc::Global;
 /// The most bytes of a file.
 const MOST_BYTES: usize = 65536;
 
-/// The number by which a file is told as not built.
+/// The status of a file that is not accepted.
 fn unbuilt(part: Part) -> Status
-    ensures { result ≡ unbuilt part }
+    ensures { result ≡ Status.Unbuilt (part_number part) }
 {
     match part {
         Part::Rules => Status::Unbuilt(1),
@@ -36,8 +37,8 @@ fn read_file<S: Shelf>(
     part: Part,
 ) -> Result<Vec<u8>, Status>
     ensures bytes { IfOk result (λ bytes. IfSome (S.holds shelf.old name.now) (λ held. bytes.items ≡ held)) }
-    ensures within { IfOk result (λ bytes. length bytes.items ≤ 65536) }
-    ensures refused { IfErr result (IsUnread part (S.holds shelf.old name.now) (S.faults shelf.old name.now) (S.faults shelf.new name.now)) }
+    ensures within { IfOk result (λ bytes. length bytes.items ≤ most_bytes) }
+    ensures refused { IfErr result (RefusesFile part (Rises (S.faults shelf.old name.now) (S.faults shelf.new name.now)) (IfSome (S.holds shelf.old name.now) (λ bytes. most_bytes < length bytes))) }
     ensures never_falls { (other : List ℕ) → S.faults shelf.old other ≤ S.faults shelf.new other }
     ensures unchanged { (other : List ℕ) → S.holds shelf.new other ≡ S.holds shelf.old other }
 {
@@ -69,9 +70,9 @@ fn of_program(fault: ReadFault) -> Status
 
 /// Whether the text of a rule file begins with the header.
 fn is_headed(alloc: Global, bytes: &[u8]) -> Result<bool, Status>
-    requires { length bytes.now ≤ 65536 }
+    requires { length bytes.now ≤ most_bytes }
     ensures headed { IfOk result (λ headed. (source : SourceFile) → Spells bytes.now source → headed ≡ source.headed) }
-    ensures refused { IfErr result (RefusesRules bytes.now) }
+    ensures refused { IfErr result (RefusesFile Part.Rules ⊥ (AreOtherRules bytes.now)) }
 {
     match has_header(alloc, bytes) {
         Ok(headed) => Ok(headed),
@@ -81,9 +82,9 @@ fn is_headed(alloc: Global, bytes: &[u8]) -> Result<bool, Status>
 
 /// The rule file of a text.
 fn built_rules(alloc: Global, bytes: &[u8]) -> Result<RuleFile, Status>
-    requires { length bytes.now ≤ 65536 }
+    requires { length bytes.now ≤ most_bytes }
     ensures built { IfOk result (IsBuiltRules bytes.now) }
-    ensures refused { IfErr result (RefusesRules bytes.now) }
+    ensures refused { IfErr result (RefusesFile Part.Rules ⊥ (AreOtherRules bytes.now)) }
 {
     match read_rules(alloc, bytes) {
         Ok(file) => {
@@ -102,9 +103,9 @@ fn built_rules(alloc: Global, bytes: &[u8]) -> Result<RuleFile, Status>
 
 /// The program of a text.
 fn built_program(alloc: Global, bytes: &[u8]) -> Result<Program, Status>
-    requires { length bytes.now ≤ 65536 }
+    requires { length bytes.now ≤ most_bytes }
     ensures built { IfOk result (IsBuiltProgram bytes.now) }
-    ensures refused { IfErr result (RefusesProgram bytes.now) }
+    ensures refused { IfErr result (RefusesFile Part.Program ⊥ (IsOtherProgram bytes.now)) }
 {
     match read_program(alloc, bytes) {
         Ok(program) => {
@@ -126,7 +127,7 @@ pub(crate) fn rules_in<S: Shelf>(
 ) -> Result<RuleFile, Status>
     ensures read { IfOk result (λ file. IfSome (S.holds shelf.old name.now) (λ bytes. IsBuiltRules bytes file)) }
     ensures built { IfOk result (λ file. is_built_file file ≡ true) }
-    ensures refused { IfErr result (RefusesRulesIn (S.holds shelf.old name.now) (S.faults shelf.old name.now) (S.faults shelf.new name.now)) }
+    ensures refused { IfErr result (RefusesFile Part.Rules (Rises (S.faults shelf.old name.now) (S.faults shelf.new name.now)) (IfSome (S.holds shelf.old name.now) AreOtherRules)) }
     ensures never_falls { (other : List ℕ) → S.faults shelf.old other ≤ S.faults shelf.new other }
     ensures unchanged { (other : List ℕ) → S.holds shelf.new other ≡ S.holds shelf.old other }
 {
@@ -142,9 +143,7 @@ pub(crate) fn program_in<S: Shelf>(
 ) -> Result<Program, Status>
     ensures read { IfOk result (λ program. IfSome (S.holds shelf.old name.now) (λ bytes. IsBuiltProgram bytes program)) }
     ensures built { IfOk result (λ program. is_built_program program ≡ true) }
-    ensures refused { IfErr result (RefusesProgramIn (S.holds shelf.old name.now) (S.faults shelf.old name.now) (S.faults shelf.new name.now)) }
-    ensures never_falls { (other : List ℕ) → S.faults shelf.old other ≤ S.faults shelf.new other }
-    ensures unchanged { (other : List ℕ) → S.holds shelf.new other ≡ S.holds shelf.old other }
+    ensures refused { IfErr result (RefusesFile Part.Program (Rises (S.faults shelf.old name.now) (S.faults shelf.new name.now)) (IfSome (S.holds shelf.old name.now) IsOtherProgram)) }
 {
     let bytes = read_file(alloc, shelf, name, Part::Program)?;
     built_program(alloc, bytes.as_slice())

@@ -1,14 +1,13 @@
 //! The command `opt`.
-ghost use Rattle.std.specs.Prelude.{◌≡◌, true, map, IfOk, IfErr, IfSome};
+ghost use Rattle.std.specs.Prelude.{◌≡◌, true, map, IfOk, IfErr, OnOk};
 ghost use Rattle.std.specs.List.{AllZip};
 ghost use Rattle.rh_admit.specs.Rules.{IsTold};
 ghost use Rattle.rh_il.specs.Checks.{IsProgram};
 ghost use Rattle.rh_log.specs.Admission.{ruling_of};
-ghost use Rattle.rh_top.specs.Ends.{Ends, IsMade};
-ghost use Rattle.rh_top.specs.Made.{IsRefused, IsUnmade, RefusesWith, unmade};
-ghost use Rattle.rh_top.specs.Opt.{IsBuiltProgram};
+ghost use Rattle.rh_top.specs.Ends.{Ends, IsMade, IsRefused};
 ghost use Rattle.rh_top.specs.Result.{IsResult};
 ghost use Rattle.rh_top.specs.Stage.{is_built_file, is_built_program};
+ghost use Rattle.rh_top.specs.Steps.{HaveFewTerms, RefusesTerms, of_admit};
 
 use crate::input::{program_in, rules_in};
 use crate::status::{Large, Status};
@@ -31,8 +30,8 @@ fn rulings_of(alloc: Global, admissions: &[Admission]) -> Result<Vec<Ruling>, Al
     Ok(rulings)
 }
 
-fn unmade(fault: AdmitFault) -> Status
-    ensures { result ≡ unmade fault }
+fn of_admit(fault: AdmitFault) -> Status
+    ensures { result ≡ of_admit fault }
 {
     match fault {
         AdmitFault::TooManyTerms { rule, count } => Status::TooLarge(Large::Terms { rule, count }),
@@ -47,7 +46,7 @@ fn passes_checks(program: &Program)
     let _count = program.count();
 }
 
-/// What is printed, by what is ruled of the rules.
+/// The output, given the rulings.
 fn text_of(
     alloc: Global,
     file: &RuleFile,
@@ -67,58 +66,37 @@ fn text_of(
     report(alloc, rules, rulings.as_slice(), &rewritten)
 }
 
-/// What is printed of a rule file and a program.
-fn result_of(alloc: Global, file: &RuleFile, program: &Program) -> Result<Vec<u8>, Status>
+/// The output for a rule file and a program.
+fn output_of(alloc: Global, file: &RuleFile, program: &Program) -> Result<Vec<u8>, Status>
     requires built_file { is_built_file file.now ≡ true }
     requires built_program { is_built_program program.now ≡ true }
+    ensures few_terms { OnOk result (HaveFewTerms file.now) }
     ensures result { IfOk result (λ text. IsResult file.now program.now text.items) }
-    ensures unmade { IfErr result (IsUnmade file.now) }
+    ensures refused { IfErr result (RefusesTerms file.now) }
 {
     match admit(alloc, file) {
         Ok(admissions) => match text_of(alloc, file, program, admissions.as_slice()) {
             Ok(text) => Ok(text),
             Err(_) => Err(Status::NoMemory),
         },
-        Err(fault) => Err(unmade(fault)),
+        Err(fault) => Err(of_admit(fault)),
     }
 }
 
-/// What is printed of a rule file and of the program in a file.
-fn made_with<S: Shelf>(
-    alloc: Global,
-    file: &RuleFile,
-    program: &str,
-    shelf: &mut S,
-) -> Result<(Program, Vec<u8>), Status>
-    requires built_file { is_built_file file.now ≡ true }
-    ensures read { IfOk result (λ both. IfSome (S.holds shelf.old program.now) (λ bytes. IsBuiltProgram bytes both.0)) }
-    ensures result { IfOk result (λ both. IsResult file.now both.0 both.1.items) }
-    ensures refused { IfErr result (RefusesWith (S.holds shelf.old program.now) (S.faults shelf.old program.now) (S.faults shelf.new program.now) file.now) }
-{
-    match program_in(alloc, shelf, program) {
-        Ok(read) => match result_of(alloc, file, &read) {
-            Ok(text) => Ok((read, text)),
-            Err(status) => Err(status),
-        },
-        Err(status) => Err(status),
-    }
-}
-
-/// What is printed of the files of these names.
+/// The output for the files of these names.
 fn made<S: Shelf>(
     alloc: Global,
     rules: &str,
     program: &str,
     shelf: &mut S,
 ) -> Result<Vec<u8>, Status>
-    ensures made { IfOk result (λ text. IsMade (S.holds shelf.old) rules.now program.now text.items) }
-    ensures refused { IfErr result (IsRefused (S.holds shelf.old) (S.faults shelf.old) (S.faults shelf.new) rules.now program.now) }
+    ensures made { IfOk result (λ text. IsMade (record { holds = S.holds shelf.old; faults_before = S.faults shelf.old; faults_after = S.faults shelf.new }) rules.now program.now text.items) }
+    ensures refused { IfErr result (IsRefused (record { holds = S.holds shelf.old; faults_before = S.faults shelf.old; faults_after = S.faults shelf.new }) rules.now program.now) }
 {
-    match rules_in(alloc, shelf, rules) {
-        Ok(file) => match made_with(alloc, &file, program, shelf) {
-            Ok((_, text)) => Ok(text),
-            Err(status) => Err(status),
-        },
+    let file = rules_in(alloc, shelf, rules)?;
+    let read = program_in(alloc, shelf, program)?;
+    match output_of(alloc, &file, &read) {
+        Ok(text) => Ok(text),
         Err(status) => Err(status),
     }
 }
@@ -132,7 +110,9 @@ pub(crate) fn opt<S: Shelf, K: Sink>(
     shelf: &mut S,
     out: &mut K,
 ) -> Status
-    ensures { Ends (S.holds shelf.old) (S.faults shelf.old) (S.faults shelf.new) (K.written out.old) (K.written out.new) (K.faults out.old) (K.faults out.new) rules.now program.now result }
+    ensures { Ends (record { holds = S.holds shelf.old; faults_before = S.faults shelf.old; faults_after = S.faults shelf.new })
+        (record { written_before = K.written out.old; written_after = K.written out.new; sunk_before = K.faults out.old; sunk_after = K.faults out.new })
+        rules.now program.now result }
 {
     match made(alloc, rules, program, shelf) {
         Ok(text) => match write_whole(out, text.as_slice()) {

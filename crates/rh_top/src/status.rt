@@ -1,10 +1,9 @@
 //! How a call of the top ends.
-ghost use Rattle.std.specs.Prelude.{◌≡◌, ◌++◌, IfOk, OnOk, codes};
-ghost use Rattle.std.specs.Fmt.{decimal};
-ghost use Rattle.rh_top.specs.Status.{large_text, line_of, number_of, part_name, reason_of};
+ghost use Rattle.std.specs.Prelude.{◌≡◌, IfOk};
+ghost use Rattle.rh_top.specs.Status.{line_of, number_of};
 
-use rh_il_text::push;
 use std::alloc::{AllocError, Global};
+use std::fmt;
 
 /// A file of a command.
 #[derive(Clone, Copy, Debug, PartialEq, Eq)]
@@ -53,55 +52,48 @@ impl Status {
     }
 }
 
-fn part_name(part: Part) -> &'static [u8]
-    ensures { result.now ≡ part_name part }
-{
-    match part {
-        Part::Rules => b"rules",
-        Part::Program => b"program",
+impl fmt::Display for Part {
+    ghost use Rattle.std.specs.Prelude.{Some};
+    ghost use Rattle.rh_top.specs.Status.{part_name};
+
+    ghost output = { λ part. Some (part_name part) };
+
+    fn fmt<W: fmt::Write>(&self, f: &mut fmt::Formatter<W>) -> fmt::Result {
+        match self {
+            Part::Rules => f.write_str("rules"),
+            Part::Program => f.write_str("program"),
+        }
     }
 }
 
-/// A text, and a number behind it.
-fn push_numbered(
-    alloc: Global,
-    out: &mut Vec<u8>,
-    text: &[u8],
-    number: u64,
-) -> Result<(), AllocError>
-    ensures { OnOk result (out.new.items ≡ out.old.items ++ text.now ++ decimal number) }
-{
-    push(out, text)?;
-    let digits = format!(in alloc; "{number}")?;
-    push(out, digits.as_bytes())
+impl fmt::Display for Large {
+    ghost use Rattle.std.specs.Prelude.{Some};
+    ghost use Rattle.rh_top.specs.Status.{large_text};
+
+    ghost output = { λ large. Some (large_text large) };
+
+    fn fmt<W: fmt::Write>(&self, f: &mut fmt::Formatter<W>) -> fmt::Result {
+        let Large::Terms { rule, count } = *self;
+        write!(f, "{count} terms at rule {rule}")
+    }
 }
 
-fn push_unread(out: &mut Vec<u8>, part: Part) -> Result<(), AllocError>
-    ensures { OnOk result (out.new.items ≡ out.old.items ++ codes "cannot read: " ++ part_name part) }
-{
-    push(out, b"cannot read: ")?;
-    push(out, part_name(part))
-}
+/// What a refusal says, and nothing where there is none.
+impl fmt::Display for Status {
+    ghost use Rattle.std.specs.Prelude.{Some};
+    ghost use Rattle.rh_top.specs.Status.{reason_of};
 
-fn push_large(alloc: Global, out: &mut Vec<u8>, large: Large) -> Result<(), AllocError>
-    ensures { OnOk result (out.new.items ≡ out.old.items ++ large_text large) }
-{
-    let Large::Terms { rule, count } = large;
-    push_numbered(alloc, out, b"too large: ", count)?;
-    push_numbered(alloc, out, b" terms at rule ", u64::from(rule))
-}
+    ghost output = { λ status. Some (reason_of status) };
 
-/// What a refusal says, without the program's name.
-fn push_reason(alloc: Global, out: &mut Vec<u8>, status: Status) -> Result<(), AllocError>
-    ensures { OnOk result (out.new.items ≡ out.old.items ++ reason_of status) }
-{
-    match status {
-        Status::Done => Ok(()),
-        Status::ReadFault(part) => push_unread(out, part),
-        Status::TooLarge(large) => push_large(alloc, out, large),
-        Status::WriteFault(count) => push_numbered(alloc, out, b"cannot write after ", count),
-        Status::NoMemory => push(out, b"out of memory"),
-        Status::Unbuilt(number) => push_numbered(alloc, out, b"not built: ", u64::from(number)),
+    fn fmt<W: fmt::Write>(&self, f: &mut fmt::Formatter<W>) -> fmt::Result {
+        match *self {
+            Status::Done => Ok(()),
+            Status::ReadFault(part) => write!(f, "cannot read: {part}"),
+            Status::TooLarge(large) => write!(f, "too large: {large}"),
+            Status::WriteFault(count) => write!(f, "cannot write after {count}"),
+            Status::NoMemory => f.write_str("out of memory"),
+            Status::Unbuilt(number) => write!(f, "not built: {number}"),
+        }
     }
 }
 
@@ -109,11 +101,9 @@ fn push_reason(alloc: Global, out: &mut Vec<u8>, status: Status) -> Result<(), A
 pub fn refusal_line(alloc: Global, status: Status) -> Result<Vec<u8>, AllocError>
     ensures { IfOk result (λ line. line.items ≡ line_of status) }
 {
-    let mut out = Vec::new(alloc);
-    if status != Status::Done {
-        push(&mut out, b"rhodium: ")?;
-        push_reason(alloc, &mut out, status)?;
-        push(&mut out, b"\n")?;
+    if status == Status::Done {
+        return Ok(Vec::new(alloc));
     }
-    Ok(out)
+    let line = format!(in alloc; "rhodium: {status}\n")?;
+    Ok(line.into_bytes())
 }

@@ -1,6 +1,6 @@
 use crate::{Part, Status, rhodium};
 use rh_list::{Items, Text};
-use rh_outside::{MemShelf, MemSink, NamedFile, OpenGate};
+use rh_outside::{Failed, MemShelf, MemSink, NamedFile, OpenGate, Shelf};
 use std::alloc::{AllocError, Global};
 use std::test::Fail;
 
@@ -26,11 +26,39 @@ fn words_of(alloc: Global) -> Result<Vec<String>, AllocError> {
     Ok(words)
 }
 
+/// A shelf that keeps of each call which file it reads, the place and the length of the buffer.
+#[derive(Drop)]
+struct AskedShelf {
+    shelf: MemShelf,
+    asked: Vec<(Part, u64, usize)>,
+}
+
+impl Shelf for AskedShelf {
+    ghost use Rattle.rh_outside.specs.Untold.{untold};
+
+    ghost holds = { λ s name. untold };
+
+    ghost faults = { λ s name. s.shelf.faults };
+
+    fn read_at(&mut self, name: &str, at: u64, buf: &mut [u8]) -> Result<usize, Failed> {
+        let part = if name == "r" {
+            Part::Rules
+        } else {
+            Part::Program
+        };
+        let _kept = self.asked.push((part, at, buf.len()));
+        self.shelf.read_at(name, at, buf)
+    }
+}
+
 #[test]
 fn one_rule_rewrites_one_statement(rt: HostRuntime) -> Result<(), Fail> {
     let alloc = rt.alloc();
     let words = words_of(alloc)?;
-    let mut shelf = shelf_of(alloc, &[])?;
+    let mut shelf = AskedShelf {
+        shelf: shelf_of(alloc, &[])?,
+        asked: Vec::new(alloc),
+    };
     let mut out = MemSink::new(alloc, 1000, 1000, Vec::new(alloc))?;
     let status = rhodium(
         &rt,
@@ -43,6 +71,13 @@ fn one_rule_rewrites_one_statement(rt: HostRuntime) -> Result<(), Fail> {
     assert_eq!(rt; status, Status::Done);
     let want = b"# rule add_zero admitted\nmain(a) var y {\n  y := a;\n  return y;\n}\n";
     assert_eq!(rt; out.bytes(), want.as_slice());
+    let once = [
+        (Part::Rules, 0, 65536),
+        (Part::Rules, 62, 65475),
+        (Part::Program, 0, 65536),
+        (Part::Program, 39, 65498),
+    ];
+    assert_eq!(rt; shelf.asked.as_slice(), once.as_slice());
     Ok(())
 }
 

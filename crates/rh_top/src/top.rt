@@ -4,7 +4,7 @@ ghost use Rattle.rh_args.specs.Forms.{texts};
 ghost use Rattle.rh_top.specs.declared.status.Status.TheVariants.{Unbuilt};
 ghost use Rattle.rh_top.specs.Complete.{IsDoneOrNothing, IsGood};
 ghost use Rattle.rh_top.specs.Ends.{Ends};
-ghost use Rattle.rh_top.specs.Opt.{IsOpt};
+ghost use Rattle.rh_top.specs.Files.{IsOpt};
 
 use crate::opt::opt;
 use crate::status::Status;
@@ -38,10 +38,14 @@ pub fn rhodium<R: Threads + Sync, S: Shelf, K: Sink, G: Gate + Sync>(
     _gate: &G,
 ) -> Status
     ensures opt { (rules program : List ℕ) → IsOpt (texts words.now) rules program
-        → Ends (S.holds shelf.old) (S.faults shelf.old) (S.faults shelf.new) (K.written out.old) (K.written out.new) (K.faults out.old) (K.faults out.new) rules program result }
+        → Ends (record { holds = S.holds shelf.old; faults_before = S.faults shelf.old; faults_after = S.faults shelf.new })
+        (record { written_before = K.written out.old; written_after = K.written out.new; sunk_before = K.faults out.old; sunk_after = K.faults out.new })
+        rules program result }
     ensures complete { (rules program : List ℕ) → IsOpt (texts words.now) rules program
-        → IsGood (S.holds shelf.old) (S.faults shelf.old) (S.faults shelf.new) (K.faults out.old) (K.faults out.new) rules program
-        → IsDoneOrNothing (K.written out.old) (K.written out.new) result }
+        → IsGood (record { holds = S.holds shelf.old; faults_before = S.faults shelf.old; faults_after = S.faults shelf.new })
+        (record { written_before = K.written out.old; written_after = K.written out.new; sunk_before = K.faults out.old; sunk_after = K.faults out.new })
+        rules program
+        → IsDoneOrNothing (record { written_before = K.written out.old; written_after = K.written out.new; sunk_before = K.faults out.old; sunk_after = K.faults out.new }) result }
     ensures unbuilt { ((rules program : List ℕ) → IsOpt (texts words.now) rules program → ⊥) → result ≡ Unbuilt 0 }
     ensures unwritten { ((rules program : List ℕ) → IsOpt (texts words.now) rules program → ⊥) → K.written out.new ≡ K.written out.old }
 {

@@ -1,5 +1,7 @@
 use Rattle.std.proofs.Common.{refl, sym, subst, ◌∙◌}
-use Rattle.rh_top.specs.Input.{RefusesProgram}
+use Rattle.rh_top.specs.declared.status.Part.TheVariants.{Program}
+use Rattle.rh_top.specs.Files.{IsOtherProgram}
+use Rattle.rh_top.specs.Steps.{RefusesFile}
 use Rattle.rh_top.proofs.Others.{program_refused, unbuilt_program}
 use Rattle.rh_top.proofs.input.built_program.Goals as goal
 
@@ -10,5 +12,5 @@ returns-else-is_built_program-clause-refused c =
 pub returns-in-Err : goal.returns-in-Err
 returns-in-Err c = record {
   built = tt;
-  refused = subst (RefusesProgram c.args.bytes.now) (sym c.of_program.ensures) (program_refused c.args.bytes.now c.in-Err.fault c.in-Err.ensures.fault);
+  refused = subst (RefusesFile Program ⊥ (IsOtherProgram c.args.bytes.now)) (sym c.of_program.ensures) (program_refused c.args.bytes.now c.in-Err.fault c.in-Err.ensures.fault);
 }

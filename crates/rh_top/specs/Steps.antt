@@ -1,0 +1,70 @@
+-- The steps of a call, each with the statuses with which it refuses, and why. Memory may run out in each.
+use Rattle.std.specs.Prelude.{ℕ, ◌≡◌, List, Option, None, IfSome}
+use Rattle.rh_admit.specs.declared.all.AdmitFault.{AdmitFault}
+use Rattle.rh_admit.specs.declared.all.AdmitFault.TheVariants.{TooManyTerms, NoMemory as NoAdmitMemory}
+use Rattle.rh_admit.specs.Rules.{IsFirstExcess, excess}
+use Rattle.rh_il_text.specs.declared.fault.ReadFault.{ReadFault as ProgramFault}
+use Rattle.rh_il_text.specs.declared.fault.ReadFault.TheVariants.{Lex as ProgramLex, Syntax as ProgramSyntax, Unknown as ProgramUnknown, Program as ProgramWrong, NoMemory as NoProgramMemory}
+use Rattle.rh_list.specs.Each.{Each}
+use Rattle.rh_rule.specs.RuleFiles.{Rules}
+use Rattle.rh_rule_text.specs.declared.fault.RulesFault.{RulesFault}
+use Rattle.rh_rule_text.specs.declared.fault.RulesFault.TheVariants.{Lex as RulesLex, Syntax as RulesSyntax, Unknown as RulesUnknown, Rules as RulesWrong, NoMemory as NoRulesMemory}
+use Rattle.rh_top.specs.declared.status.Large.TheVariants.{Terms}
+use Rattle.rh_top.specs.declared.status.Part.{Part}
+use Rattle.rh_top.specs.declared.status.Part.TheVariants.{Rules as RulesPart, Program as ProgramPart}
+use Rattle.rh_top.specs.declared.status.Status.{Status}
+use Rattle.rh_top.specs.declared.status.Status.TheVariants.{ReadFault, TooLarge, NoMemory, Unbuilt}
+use Rattle.rh_top.specs.Call.{Reads, ReadFails}
+use Rattle.rh_top.specs.Files.{AreOtherRules, IsOtherProgram}
+
+-- ---- a file
+
+-- the number of a part of which the file is not accepted
+abbrev pub part_number : Part → ℕ
+part_number RulesPart = 1
+part_number ProgramPart = 2
+
+-- the file of a part is refused: a read of it failed, or it is another file than those that are accepted
+abbrev pub RefusesFile : Part → Type 0 → Type 0 → Status → Type 0
+RefusesFile part failed other (ReadFault which) = (which ≡ part) × failed
+RefusesFile part failed other (Unbuilt number) = (number ≡ part_number part) × other
+RefusesFile part failed other NoMemory = Unit {0}
+RefusesFile part failed other _ = ⊥
+
+abbrev pub RefusesRules : Reads → List ℕ → Status → Type 0
+RefusesRules reads name = RefusesFile RulesPart (ReadFails reads name) (IfSome (reads.holds name) AreOtherRules)
+
+abbrev pub RefusesProgram : Reads → List ℕ → Status → Type 0
+RefusesProgram reads name = RefusesFile ProgramPart (ReadFails reads name) (IfSome (reads.holds name) IsOtherProgram)
+
+-- the status of a fault of a text
+abbrev pub of_rules : RulesFault → Status
+of_rules (RulesLex fault) = Unbuilt 1
+of_rules (RulesSyntax at) = Unbuilt 1
+of_rules (RulesUnknown at) = Unbuilt 1
+of_rules (RulesWrong fault) = Unbuilt 1
+of_rules NoRulesMemory = NoMemory
+
+abbrev pub of_program : ProgramFault → Status
+of_program (ProgramLex fault) = Unbuilt 2
+of_program (ProgramSyntax at) = Unbuilt 2
+of_program (ProgramUnknown at) = Unbuilt 2
+of_program (ProgramWrong fault) = Unbuilt 2
+of_program NoProgramMemory = NoMemory
+
+-- ---- the terms of the obligations
+
+-- no obligation of the rules has more than 512 terms
+abbrev pub HaveFewTerms : Rules → Type 0
+HaveFewTerms file = Each (λ rule. excess file.schemas rule ≡ None) file.rules
+
+-- the rules are refused: this one is the first with an obligation of more terms
+abbrev pub RefusesTerms : Rules → Status → Type 0
+RefusesTerms file (TooLarge (Terms rule count)) = IsFirstExcess file.schemas file.rules rule count
+RefusesTerms file NoMemory = Unit {0}
+RefusesTerms file _ = ⊥
+
+-- the status of rules that are not ruled on
+abbrev pub of_admit : AdmitFault → Status
+of_admit (TooManyTerms rule count) = TooLarge (Terms rule count)
+of_admit NoAdmitMemory = NoMemory
