@@ -135,12 +135,12 @@ module _ (procs : List Proc) (program : IsProgram procs) (numbers : Each HasNumb
       record {
         running = omega arith;
         edges = all_with (λ frame. IsSome (statement_at procs frame)) new (top ∷ below)
-        (enters_some procs new code 0 found.1 refl (first_statement procs program callee code found.1))
-        (all_with (λ frame. IsSome (statement_at procs frame)) top below here parted.edges);
+            (enters_some procs new code 0 found.1 refl (first_statement procs program callee code found.1))
+            (all_with (λ frame. IsSome (statement_at procs frame)) top below here parted.edges);
         stacked = (omega (arith, size, fresh_size, width), (parted.top_stacked, parted.below_stacked));
         called = (record { number = number; to = to; arg = arg; at_call = at_call }, parted.called);
         held = all_held (length all) all
-        (held_append (length all) cells (fresh_cells procs callee value) (λ k. held_more (length cells) (length all) (cell cells k) longer (parted.held k)) fresh_held);
+            (held_append (length all) cells (fresh_cells procs callee value) (λ k. held_more (length cells) (length all) (cell cells k) longer (parted.held k)) fresh_held);
       }
     where
       more : (n : ℕ) → 1 ≤ n → length (value ∷ replicate (n - 1) (Num (pos 0))) ≡ n

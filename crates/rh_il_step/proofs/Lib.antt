@@ -1,3 +1,4 @@
 pub mod Held
+pub mod Frames
 pub mod Standing
 pub mod Kept

@@ -30,6 +30,11 @@ base_value cells base (Literal number) = Num number
 abbrev pub past : Frame → ℕ → Slot → Frame
 past frame number slot = record frame { edge = record { node = At number; slot = slot } }
 
+-- the frame on top has gone out of the statement by a slot
+abbrev pub gone : List Frame → ℕ → Slot → List Frame
+gone [] number slot = []
+gone (top ∷ below) number slot = past top number slot ∷ below
+
 -- a procedure at its entry
 abbrev pub entered : ℕ → ℕ → Frame
 entered proc base = record { proc = proc; base = base; edge = record { node = Entry; slot = Out } }

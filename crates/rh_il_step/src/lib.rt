@@ -2,5 +2,9 @@
 #![tactic(auto)]
 
 mod frame;
+mod state;
+mod step;
 
 pub use frame::Frame;
+pub use state::State;
+pub use step::Outcome;
