@@ -34,7 +34,7 @@ use Rattle.rh_il_step.proofs.Standing.{Stands, enters_some, first_statement, sta
 all_rest : {X : Type 0} (P : X → Type 0) (x : X) (xs : List X) → All P (x ∷ xs) → All P xs
 all_rest P x xs all k d below = all (suc k) d (omega (arith, below))
 
-all_with : {X : Type 0} (P : X → Type 0) (x : X) (xs : List X) → P x → All P xs → All P (x ∷ xs)
+pub all_with : {X : Type 0} (P : X → Type 0) (x : X) (xs : List X) → P x → All P xs → All P (x ∷ xs)
 all_with P x xs here rest zero d below = here
 all_with P x xs here rest (suc k) d below = rest k d (omega (arith, below))
 
@@ -51,7 +51,7 @@ called_below : (procs : List Proc) (top : Frame) (below : List Frame) → AreCal
 called_below procs top [] called = tt
 called_below procs top (caller ∷ below) called = called.1
 
-some_at : {X : Type 0} (xs : List X) (k : ℕ) → k < length xs → (x : X) × (slice_get xs k ≡ Some x)
+pub some_at : {X : Type 0} (xs : List X) (k : ℕ) → k < length xs → (x : X) × (slice_get xs k ≡ Some x)
 some_at [] k below = absurd (omega (arith, below))
 some_at (x ∷ xs) zero below = (x, refl)
 some_at (x ∷ xs) (suc k) below = some_at xs k (omega (arith, below))
@@ -97,11 +97,11 @@ module _ (procs : List Proc) (program : IsProgram procs) (numbers : Each HasNumb
       went _ (went_on top below cells number stmt Out n proc (slice_set cells at value) parted stands out (omega (arith, size))
       (subst (λ k. AreHeld k (slice_set cells at value)) (sym size) (held_set (length cells) cells at value held parted.held)))
 
-  width_is : (frame : Frame) (proc : Proc) → slice_get procs frame.proc ≡ Some proc → width_of procs frame ≡ length proc.vars
+  pub width_is : (frame : Frame) (proc : Proc) → slice_get procs frame.proc ≡ Some proc → width_of procs frame ≡ length proc.vars
   width_is frame proc at = ap (λ o. option_map_or (λ (p : Proc). length p.vars) o 0) at
 
   -- a procedure has a variable
-  some_vars : (place : ℕ) (proc : Proc) → slice_get procs place ≡ Some proc → 1 ≤ length proc.vars
+  pub some_vars : (place : ℕ) (proc : Proc) → slice_get procs place ≡ Some proc → 1 ≤ length proc.vars
   some_vars place proc at =
       let known = checks_passed (length procs) place proc (proc_passed procs place proc (passed procs program.passes) at) in
       leb-true 1 (length proc.vars) (and_parts _ _ (passes _ _ _ _ known.vars)).0
@@ -112,7 +112,7 @@ module _ (procs : List Proc) (program : IsProgram procs) (numbers : Each HasNumb
 
   -- ---- calls and returns
 
-  fresh_are : (callee : ℕ) (proc : Proc) (arg : Value) → slice_get procs callee ≡ Some proc → fresh_cells procs callee arg ≡ arg ∷ replicate (length proc.vars - 1) (Num (pos 0))
+  pub fresh_are : (callee : ℕ) (proc : Proc) (arg : Value) → slice_get procs callee ≡ Some proc → fresh_cells procs callee arg ≡ arg ∷ replicate (length proc.vars - 1) (Num (pos 0))
   fresh_are callee proc arg at =
       ap (λ o. elim o as (λ _. List Value) [ None ↦ [] | Some p ↦ arg ∷ replicate (length p.vars - 1) (Num (pos 0)) ]) at
 
@@ -263,3 +263,10 @@ module _ (procs : List Proc) (program : IsProgram procs) (numbers : Each HasNumb
   -- a step leads to a state of the program
   pub steps_keep : (state next : State) → IsStateOf procs state → step procs state ≡ Went next → IsStateOf procs next
   steps_keep state next is told = from_frames state.frames state.cells is next told
+
+  -- the same of the statement that the top frame is at
+  pub executed_keeps : (top : Frame) (below : List Frame) (cells : List Value) (number : ℕ) (stmt : Stmt) → IsStateOf procs (record { frames = top ∷ below; cells = cells })
+      → statement_at procs top ≡ Some (number, stmt) → (next : State) → executed procs top below cells number stmt ≡ Went next → IsStateOf procs next
+  executed_keeps top below cells number stmt state at next told =
+      from_top top below cells state next
+      (ap (λ o. elim o as (λ _. Outcome) [ None ↦ Stuck | Some here ↦ executed procs top below cells here.0 here.1 ]) at ∙ told)

@@ -3,8 +3,8 @@ use Rattle.std.specs.Prelude.{ℕ, ◌≡◌, List, ◌∷◌, Result, Ok, Err}
 use Rattle.std.specs.declared.alloc.AllocError.{AllocError}
 use Rattle.rh_il.specs.declared.value.Value.{Value}
 use Rattle.rh_il_step.specs.declared.frame.Frame.{Frame}
-use Rattle.rh_il_step.specs.declared.step.Outcome.{Outcome as Told}
-use Rattle.rh_il_step.specs.declared.step.Outcome.TheVariants.{Went as TellsNext, Returned as TellsValue, Stuck as TellsStuck}
+use Rattle.rh_il_step.specs.declared.stepping.Outcome.{Outcome as Told}
+use Rattle.rh_il_step.specs.declared.stepping.Outcome.TheVariants.{Went as TellsNext, Returned as TellsValue, Stuck as TellsStuck}
 use Rattle.rh_il_step.specs.State.{State}
 use Rattle.rh_il_step.specs.Step.{Outcome, Went, Returned, Stuck}
 

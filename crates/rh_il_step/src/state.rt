@@ -65,6 +65,17 @@ impl State {
         self.frames.as_slice().last().copied()
     }
 
+    /// The frame of the procedure that called the running one.
+    pub(crate) fn caller(&self) -> Option<Frame>
+        ensures { result ≡ slice_get self.now.frames 1 }
+    {
+        let count = self.frames.len();
+        if count < 2 {
+            return None;
+        }
+        Some(self.frames[count - 2])
+    }
+
     /// What a variable holds.
     pub(crate) fn variable(&self, base: u64, number: u32) -> Value
         ensures { result ≡ cell self.now.cells (base + number) }

@@ -1,12 +1,12 @@
 //! One step of a program.
-ghost use Rattle.std.specs.Prelude.{ℕ, List, ◌≡◌, ◌<◌, ◌∷◌, length, slice_get, IfOk, OnErr};
+ghost use Rattle.std.specs.Prelude.{ℕ, List, Some, ◌≡◌, ◌<◌, ◌+◌, ◌^◌, ◌∷◌, length, slice_get, IfOk, OnErr};
 ghost use Rattle.rh_list.specs.Each.{Each};
 ghost use Rattle.rh_il.specs.Numbers.{HasNumbers};
 ghost use Rattle.rh_il.specs.Checks.{IsProgram};
 ghost use Rattle.rh_il.specs.Op.{apply};
 ghost use Rattle.rh_il.specs.declared.program.Stmt.TheVariants.{Call};
-ghost use Rattle.rh_il_step.specs.State.{IsStateOf, cell, statement_at};
-ghost use Rattle.rh_il_step.specs.Step.{branches, computes, ends_call, executed, goes_on, loads, returns, sets, step, writes};
+ghost use Rattle.rh_il_step.specs.State.{IsStateOf, cell, statement_at, width_of};
+ghost use Rattle.rh_il_step.specs.Step.{branches, calls, computes, executed, goes_on, loads, renews, returns, sets, step, writes};
 ghost use Rattle.rh_il_step.specs.Told.{Does, DoesOrFails, Leaves};
 
 use crate::frame::Frame;
@@ -107,30 +107,23 @@ fn branch(state: &mut State, top: Frame, number: u32, condition: Value) -> Outco
     }
 }
 
-/// The variable of a call gets what the called procedure returned.
-fn end_call(state: &mut State, caller: Frame, number: u32, stmt: Stmt, value: Value) -> Outcome
-    ensures { Does caller (λ below. ends_call caller below number state.old.cells value stmt) state.old state.new result }
-{
-    match stmt {
-        Stmt::Call { to, .. } => assign(state, caller, number, to, value),
-        _ => Outcome::Stuck,
-    }
-}
-
 /// The running procedure is over, and the call below it gets its value, or `main` is over.
 fn end(program: &Program, state: &mut State, top: Frame, value: Value) -> Outcome
     ensures { Does top (λ below. returns program.now below state.old.cells value) state.old state.new result }
 {
-    let Some(caller) = state.below_top() else {
+    let Some(caller) = state.caller() else {
         return Outcome::Returned(value);
     };
     let Some((number, stmt)) = statement_at(program, caller) else {
         return Outcome::Stuck;
     };
-    if let Stmt::Call { .. } = stmt {
-        state.exit();
+    match stmt {
+        Stmt::Call { to, .. } => {
+            state.exit();
+            assign(state, caller, number, to, value)
+        }
+        _ => Outcome::Stuck,
     }
-    end_call(state, caller, number, stmt, value)
 }
 
 /// A procedure is called.
@@ -167,10 +160,12 @@ fn execute(
     number: u32,
     stmt: Stmt,
 ) -> Result<Outcome, AllocError>
-    requires { statement_at program.now top ≡ Some (number, stmt) }
+    requires at { statement_at program.now top ≡ Some (number, stmt) }
+    requires inside { top.base + width_of program.now top < 2 ^ 64 }
     ensures { DoesOrFails top (λ below. executed program.now top below state.old.cells number stmt) state.old state.new result }
 {
     let base = top.base;
+    let _count = program.count();
     match stmt {
         Stmt::Skip | Stmt::Goto { .. } => Ok(go_on(state, top, number)),
         Stmt::Copy { to, from } => {
@@ -178,14 +173,19 @@ fn execute(
             Ok(assign(state, top, number, to, value))
         }
         Stmt::Address { to, of } => {
-            let location = base.saturating_add(u64::from(of));
+            let location = base + u64::from(of);
             Ok(assign(state, top, number, to, Value::Ptr(location)))
         }
         Stmt::Load { to, from } => {
             let address = state.variable(base, from);
             Ok(load(state, top, number, to, address))
         }
-        Stmt::Compute { to, op, left, right } => {
+        Stmt::Compute {
+            to,
+            op,
+            left,
+            right,
+        } => {
             let value = op.apply(state.operand(base, left), state.operand(base, right));
             Ok(compute(state, top, number, to, value))
         }
@@ -208,4 +208,24 @@ fn execute(
             Ok(end(program, state, top, value))
         }
     }
+}
+
+/// Makes one step. The state is as it was where the statement cannot step, where `main` returns,
+/// and where memory ran out.
+pub fn step(program: &Program, state: &mut State) -> Result<Outcome, AllocError>
+    requires { IsStateOf program.now state.old }
+    ensures stepped { IfOk result (Leaves (step program.now state.old) state.old state.new) }
+    ensures unchanged { OnErr result (state.new ≡ state.old) }
+    ensures kept { IsStateOf program.now state.new }
+{
+    numbers_fit(program);
+    let _count = program.count();
+    let _size = state.cells().len();
+    let Some(top) = state.top() else {
+        return Ok(Outcome::Stuck);
+    };
+    let Some((number, stmt)) = statement_at(program, top) else {
+        return Ok(Outcome::Stuck);
+    };
+    execute(program, state, top, number, stmt)
 }
