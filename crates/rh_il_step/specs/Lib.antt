@@ -1,3 +1,5 @@
 pub mod State
 pub mod Step
 pub mod Run
+pub mod Told
+pub mod RunEnd

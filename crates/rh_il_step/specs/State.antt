@@ -1,5 +1,5 @@
 -- States of a program.
-use Rattle.std.specs.Prelude.{ℕ, ◌≡◌, ◌<◌, ◌≤◌, ◌+◌, List, [], ◌∷◌, Option, Some, IsSome, length, slice_get, slice_index_or, pos}
+use Rattle.std.specs.Prelude.{ℕ, ◌≡◌, ◌<◌, ◌≤◌, ◌+◌, ◌^◌, List, [], ◌∷◌, Option, Some, None, IsSome, length, slice_get, slice_index_or, pos}
 use Rattle.std.specs.List.{All}
 use Rattle.std.specs.Option.{option_and_then, option_map, option_map_or}
 use Rattle.rh_il.specs.declared.program.Base.{Base}
@@ -20,6 +20,11 @@ pub record State : Type 0 where
 -- what the cell at a location holds, and 0 past the store
 abbrev pub cell : List Value → ℕ → Value
 cell cells location = slice_index_or cells location (Num (pos 0))
+
+-- the location is one of a machine of 64 bits, and this is it
+abbrev pub IsPlace : ℕ → Option ℕ → Type 0
+IsPlace location None = 2 ^ 64 ≤ location
+IsPlace location (Some at) = at ≡ location
 
 -- the statement that the edge of the frame enters, with its number
 abbrev pub statement_at : List Proc → Frame → Option (ℕ × Stmt)

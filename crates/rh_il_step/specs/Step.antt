@@ -30,6 +30,11 @@ base_value cells base (Literal number) = Num number
 abbrev pub past : Frame → ℕ → Slot → Frame
 past frame number slot = record frame { edge = record { node = At number; slot = slot } }
 
+-- the frame on top has gone out of the statement by a slot
+abbrev pub gone : List Frame → ℕ → Slot → List Frame
+gone [] number slot = []
+gone (top ∷ below) number slot = past top number slot ∷ below
+
 -- a procedure at its entry
 abbrev pub entered : ℕ → ℕ → Frame
 entered proc base = record { proc = proc; base = base; edge = record { node = Entry; slot = Out } }
@@ -78,6 +83,15 @@ returns procs [] cells value = Returned value
 returns procs (caller ∷ below) cells value =
     elim (statement_at procs caller) as (λ _. Outcome) [ None ↦ Stuck | Some at ↦ ends_call caller below at.0 cells value at.1 ]
 
+-- the variable gets a pointer to a new cell with 0
+abbrev pub renews : Frame → List Frame → ℕ → List Value → ℕ → Outcome
+renews top below number cells to = sets top below number (cells ++ Num (pos 0) ∷ []) to (Ptr (length cells))
+
+-- the procedure begins, above the frame that calls it
+abbrev pub calls : List Proc → Frame → List Frame → List Value → ℕ → Value → Outcome
+calls procs top below cells callee value =
+    Went (record { frames = entered callee (length cells) ∷ top ∷ below; cells = cells ++ fresh_cells procs callee value })
+
 -- what the statement makes of a state with this top frame, where it has this number
 abbrev pub executed : List Proc → Frame → List Frame → List Value → ℕ → Stmt → Outcome
 executed procs top below cells number Skip = goes_on top below number cells
@@ -88,11 +102,9 @@ executed procs top below cells number (Load to from) = loads top below number ce
 executed procs top below cells number (Compute to op left right) =
     computes top below number cells to (apply op (base_value cells top.base left) (base_value cells top.base right))
 executed procs top below cells number (Write to from) = writes top below number cells (cell cells (top.base + to)) (base_value cells top.base from)
-executed procs top below cells number (New to) =
-    sets top below number (cells ++ Num (pos 0) ∷ []) to (Ptr (length cells))
+executed procs top below cells number (New to) = renews top below number cells to
 executed procs top below cells number (If cond taken other) = branches top below number cells (base_value cells top.base cond)
-executed procs top below cells number (Call to callee arg) =
-    Went (record { frames = entered callee (length cells) ∷ top ∷ below; cells = cells ++ fresh_cells procs callee (base_value cells top.base arg) })
+executed procs top below cells number (Call to callee arg) = calls procs top below cells callee (base_value cells top.base arg)
 executed procs top below cells number (Return value) = returns procs below cells (base_value cells top.base value)
 
 -- the step of a state
