@@ -4,7 +4,7 @@ use Rattle.std.proofs.lemmas.Bool.{both_ways, cond-false, false_from_ne_true}
 use Rattle.std.proofs.lemmas.Bool.Decides.{same_from_decides}
 use Rattle.std.proofs.lemmas.Iterator.Adapters.{position_from-zero}
 use Rattle.std.specs.List.{list_any, position, position_from}
-use Rattle.std.specs.Option.{option_map, IfSome, IfNone}
+use Rattle.std.specs.Option.{option_map}
 use Rattle.rh_il.specs.Op.{op_eq}
 use Rattle.rh_il.specs.declared.value.Op.{Op as Operator}
 use Rattle.rh_il.specs.declared.value.Op.TheVariants.{Add, Sub, Mul, Less, Equal}
