@@ -1,5 +1,5 @@
--- Bytes that are not accepted: they have a fault, or are a text of something else, or are too long.
-use Rattle.std.proofs.Common.{ℕ, ◌≡◌, ◌<◌, true, false, List, length, refl, sym, ap, ◌∙◌, arith}
+-- Bytes that are not accepted: they have a fault or are a text of something else.
+use Rattle.std.proofs.Common.{ℕ, ◌≡◌, true, false, List, refl, sym, ap, ◌∙◌}
 use Rattle.rh_il.specs.declared.program.Proc.{Proc}
 use Rattle.rh_il_text.specs.declared.fault.ReadFault.{ReadFault}
 use Rattle.rh_il_text.specs.declared.fault.ReadFault.TheVariants.{Lex as ProgramLex, Syntax as ProgramSyntax, Unknown as ProgramUnknown, Program as ProgramWrong, NoMemory as NoProgramMemory}
@@ -11,7 +11,7 @@ use Rattle.rh_rule_text.specs.declared.fault.RulesFault.TheVariants.{Lex as Rule
 use Rattle.rh_rule_text.specs.Reading.{IsText as IsRulesText, FaultsAs as RulesFaultsAs, LexFaultsAs}
 use Rattle.rh_rule_text.proofs.OneReading.{one_rule_file, texts_have_no_fault as rules_have_no_fault}
 use Rattle.rh_top.specs.declared.status.Part.TheVariants.{Rules as RulesPart, Program as ProgramPart}
-use Rattle.rh_top.specs.Files.{AreOtherRules, HasHeader, IsOtherProgram, most_bytes}
+use Rattle.rh_top.specs.Files.{AreOtherRules, HasHeader, IsOtherProgram}
 use Rattle.rh_top.specs.Stage.{is_built_file, is_built_program}
 use Rattle.rh_top.specs.Steps.{RefusesFile, of_rules, of_program}
 
@@ -57,9 +57,3 @@ program_refused bytes (ProgramSyntax at) faults = (refl, faulty_program bytes (P
 program_refused bytes (ProgramUnknown at) faults = (refl, faulty_program bytes (ProgramUnknown at) faults (λ e. absurd cc))
 program_refused bytes (ProgramWrong fault) faults = (refl, faulty_program bytes (ProgramWrong fault) faults (λ e. absurd cc))
 program_refused bytes NoProgramMemory faults = tt
-
-pub long_rules : (bytes : List ℕ) → most_bytes < length bytes → AreOtherRules bytes
-long_rules bytes long file built = let within = built.within in omega (arith, long, within)
-
-pub long_program : (bytes : List ℕ) → most_bytes < length bytes → IsOtherProgram bytes
-long_program bytes long procs built = let within = built.within in omega (arith, long, within)
