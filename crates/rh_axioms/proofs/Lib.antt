@@ -8,3 +8,4 @@ pub mod Sorts
 pub mod Arithmetic
 pub mod Literals
 pub mod Truths
+pub mod Bounds
