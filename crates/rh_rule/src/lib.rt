@@ -5,6 +5,7 @@ mod check;
 mod fault;
 mod kinds;
 mod numbers;
+mod ranges;
 mod rule;
 mod rule_file;
 mod schema;
