@@ -7,13 +7,13 @@ use Rattle.std.proofs.lemmas.List.{map-append, take_more}
 use Rattle.rh_list.proofs.Appended.{apart}
 use Rattle.rh_oblig.specs.Obligation.{clause_in, clauses_in}
 use Rattle.rh_term.specs.declared.term.Term.{Term}
-use Rattle.rh_term.specs.Term.{HasParts}
 use Rattle.rh_oblig.specs.declared.literal.TreeLit.{TreeLit as BuiltLit}
 use Rattle.rh_oblig.specs.declared.hypotheses.TreeClause.{TreeClause as BuiltClause}
 use Rattle.rh_oblig.specs.Sorts.{AreFit, IsSorted}
 use Rattle.rh_oblig.specs.TermList.{clause_trees, literal_trees, with_trees}
 use Rattle.rh_oblig.specs.Tree.{Tree, Leaf, with_term, with_tree}
 use Rattle.rh_oblig.specs.View.{clauses_of, lit_of, lits_of}
+use Rattle.rh_oblig.proofs.RuleTrees.{IsSortedLeaf}
 use Rattle.rh_oblig.proofs.Sorted.{leaf_parts}
 
 pub with_trees_both : (terms : List Term) (a b : List Tree) → with_trees terms (a ++ b) ≡ with_trees (with_trees terms a) b
@@ -25,9 +25,9 @@ pub with_leaves : (terms leaves : List Term) → with_trees terms (map Leaf leav
 with_leaves terms [] = refl
 with_leaves terms (leaf ∷ leaves) = with_leaves (with_term terms leaf) leaves
 
-pub leaves_are_fit : (terms leaves : List Term) → AllByRecursion (HasParts []) leaves → AreFit terms leaves
+pub leaves_are_fit : (terms leaves : List Term) → AllByRecursion IsSortedLeaf leaves → AreFit terms leaves
 leaves_are_fit terms [] fit = tt
-leaves_are_fit terms (leaf ∷ leaves) fit = (leaf_parts terms leaf fit.0, leaves_are_fit terms leaves fit.1)
+leaves_are_fit terms (leaf ∷ leaves) fit = (leaf_parts terms leaf fit.0.0, leaves_are_fit terms leaves fit.1)
 
 -- the literals from a place on are one literal and the others
 pub lits_cut : (lits : List BuiltLit) (i : ℕ) (d : BuiltLit) → i < length lits

@@ -49,7 +49,7 @@ module _ (model : Model) (terms : List Term) (list : IsTermList terms) where
   at_place term within = known_at model terms list (place_of terms term) term (place_found terms term within)
 
   pub tree_denotes : (tree : Tree) → IsIn terms tree → IsSorted tree → denotation_at all (tree_place terms tree) ≡ denotation model tree
-  tree_denotes (Leaf term) is_in sorted = at_place term is_in ∙ leaf_denotes model all term sorted
+  tree_denotes (Leaf term) is_in sorted = at_place term is_in ∙ leaf_denotes model all term sorted.0
   tree_denotes (Select store address) is_in sorted =
       at_place (Sel (tree_place terms store) (tree_place terms address)) is_in.2
       ∙ ap (λ s. AValue (select (store_of s) (value_of (denotation_at all (tree_place terms address))))) (tree_denotes store is_in.0 sorted.0)

@@ -3,18 +3,16 @@ use Rattle.std.proofs.Common.{ℕ, ◌≡◌, ◌<◌, ◌≤◌, ◌+◌, ◌++
 use Rattle.std.specs.Prelude.{find, nat_lt, if◌then◌else◌}
 use Rattle.std.specs.Option.{option_or}
 use Rattle.std.specs.Result.{IsErrAnd}
-use Rattle.std.specs.List.{All, AllByRecursion}
+use Rattle.std.specs.List.{AllByRecursion}
 use Rattle.std.proofs.Math.Seq.{drop-cons}
 use Rattle.std.proofs.lemmas.Bool.{le-ltb, lt-ltb}
 use Rattle.std.proofs.lemmas.List.{map-append, take-append-drop, take_more}
-use Rattle.std.proofs.lemmas.List.Elements.{All-push}
 use Rattle.std.proofs.lemmas.List.Folds.{find-append}
 use Rattle.rh_list.proofs.Appended.{apart}
 use Rattle.rh_rule.specs.declared.rule.Rule.{Rule}
 use Rattle.rh_rule.specs.declared.schema.Schema.{Schema}
 use Rattle.rh_term.specs.declared.term.Term.{Term}
 use Rattle.rh_term.specs.declared.clause.Clause.{Clause}
-use Rattle.rh_term.specs.Term.{IsTermList}
 use Rattle.rh_oblig.specs.declared.literal.TreeLit.{TreeLit as BuiltLit}
 use Rattle.rh_oblig.specs.Hypotheses.{hypotheses}
 use Rattle.rh_oblig.specs.Literal.{TreeLit, TreeClause}
@@ -41,18 +39,6 @@ parts_more schemas rule goals i d within =
     ap (λ (front : List BuiltLit). map (part_for schemas rule) (lits_of front)) (take_more goals i d within)
     ∙ ap (map (part_for schemas rule)) (map-append lit_of (take i goals) (get_or goals i d ∷ []))
     ∙ map-append (part_for schemas rule) (lits_of (take i goals)) (lit_of (get_or goals i d) ∷ [])
-
--- the list of terms of a goal is such a list
-abbrev pub HasList : List Schema → Rule → TreeLit → Type 0
-HasList schemas rule goal = IsTermList (terms_of schemas rule goal)
-
--- one more goal has its list of terms
-pub list_more : (schemas : List Schema) (rule : Rule) (goals : List BuiltLit) (i : ℕ) (d : BuiltLit) → i < length goals → All (HasList schemas rule) (lits_of (take i goals))
-    → IsTermList (terms_of schemas rule (lit_of (get_or goals i d))) → All (HasList schemas rule) (lits_of (take (i + 1) goals))
-list_more schemas rule goals i d within lists list =
-    subst (All (HasList schemas rule))
-    (sym (ap (λ (front : List BuiltLit). lits_of front) (take_more goals i d within) ∙ map-append lit_of (take i goals) (get_or goals i d ∷ [])))
-    (All-push (HasList schemas rule) (lits_of (take i goals)) (lit_of (get_or goals i d)) lists list)
 
 -- the numbers of terms of some goals
 abbrev sizes : List Schema → Rule → List TreeLit → List ℕ

@@ -1,5 +1,5 @@
 -- Clauses over a list of terms, and the clauses of an obligation.
-use Rattle.std.specs.Prelude.{ℕ, nat_lt, List, [], ◌∷◌, ◌++◌, Option, map, find, length}
+use Rattle.std.specs.Prelude.{ℕ, ◌<◌, ◌^◌, nat_lt, List, [], ◌∷◌, ◌++◌, Option, map, find, length}
 use Rattle.rh_term.specs.declared.obligation.Obligation.{Obligation}
 use Rattle.rh_term.specs.declared.clause.Lit.{Lit}
 use Rattle.rh_term.specs.declared.clause.Clause.{Clause}
@@ -54,6 +54,14 @@ IsAdmitted schemas rule = All (IsShown schemas rule) (goals schemas rule)
 abbrev pub obligations_of : List Schema → Rule → List (List Term × List Clause)
 obligations_of schemas rule = map (λ goal. (terms_of schemas rule goal, clauses_for schemas rule goal)) (goals schemas rule)
 
+-- fewer than 2^32 clauses, each of fewer than 2^32 literals
+pub record AreSmallClauses (clauses : List Clause) : Type 0 where
+  pub few : length clauses < 2 ^ 32
+  pub narrow : All (λ (clause : Clause). length clause.lits < 2 ^ 32) clauses
+
+abbrev pub IsSmall : Obligation → Type 0
+IsSmall obligation = AreSmallClauses obligation.clauses
+
 -- the obligations that the code made
 abbrev pub parts_of : List Obligation → List (List Term × List Clause)
 parts_of obligations = map (λ obligation. (obligation.terms, obligation.clauses)) obligations
@@ -61,3 +69,7 @@ parts_of obligations = map (λ obligation. (obligation.terms, obligation.clauses
 -- the number of terms of the first of the goals with more than 512
 abbrev pub first_excess : List Schema → Rule → List TreeLit → Option ℕ
 first_excess schemas rule goals = find (nat_lt 512) (map (λ goal. length (terms_of schemas rule goal)) goals)
+
+-- the number of terms of the first obligation of the rule with more than 512
+abbrev pub excess : List Schema → Rule → Option ℕ
+excess schemas rule = first_excess schemas rule (goals schemas rule)

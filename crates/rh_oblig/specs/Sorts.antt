@@ -1,8 +1,9 @@
 -- Trees of the right sorts, and trees that stand in a list.
-use Rattle.std.specs.Prelude.{◌<◌, Bool, true, false, IsTrue, List, [], length}
+use Rattle.std.specs.Prelude.{◌<◌, ◌≤◌, Bool, true, false, IsTrue, List, [], length}
 use Rattle.std.specs.List.{AllByRecursion}
 use Rattle.rh_term.specs.declared.term.Term.{Term}
-use Rattle.rh_term.specs.Term.{is_value_term, is_store_term, HasParts}
+use Rattle.rh_term.specs.Term.{is_value_term, is_store_term, HasNumber, HasParts}
+use Rattle.rh_oblig.specs.Literal.{TreeClause}
 use Rattle.rh_oblig.specs.Tree.{Tree, Leaf, Select, Update, Compute, KindOf, Unheld, place_of, tree_place}
 
 abbrev pub is_value_tree : Tree → Bool
@@ -16,12 +17,17 @@ is_store_tree (Leaf term) = is_store_term term
 is_store_tree (Update store address value) = true
 is_store_tree _ = false
 
--- leaves have no parts, and parts are stores and values where they have to be
+abbrev pub is_leaf : Tree → Bool
+is_leaf (Leaf term) = true
+is_leaf _ = false
+
+-- leaves have no parts, and their numbers are of 64 bits; parts are stores and values where they have to
+-- be, and no update is over another
 abbrev pub IsSorted : Tree → Type 0
-IsSorted (Leaf term) = HasParts [] term
+IsSorted (Leaf term) = HasParts [] term × HasNumber term
 IsSorted (Select store address) = IsSorted store × IsSorted address × IsTrue (is_store_tree store) × IsTrue (is_value_tree address)
 IsSorted (Update store address value) =
-    IsSorted store × IsSorted address × IsSorted value × IsTrue (is_store_tree store) × IsTrue (is_value_tree address) × IsTrue (is_value_tree value)
+    IsSorted store × IsSorted address × IsSorted value × IsTrue (is_store_tree store) × IsTrue (is_value_tree address) × IsTrue (is_value_tree value) × IsTrue (is_leaf store)
 IsSorted (Compute op left right) = IsSorted left × IsSorted right × IsTrue (is_value_tree left) × IsTrue (is_value_tree right)
 IsSorted (KindOf value) = IsSorted value × IsTrue (is_value_tree value)
 IsSorted (Unheld store value) = IsSorted store × IsSorted value × IsTrue (is_store_tree store) × IsTrue (is_value_tree value)
@@ -39,3 +45,8 @@ IsIn terms (Unheld store value) = IsIn terms store × IsIn terms value × (tree_
 -- terms whose parts stand in the list
 abbrev pub AreFit : List Term → List Term → Type 0
 AreFit terms others = AllByRecursion (HasParts terms) others
+
+-- hypotheses of a rule: so few of them, and so short
+pub record AreFewClauses (clauses : List TreeClause) : Type 0 where
+  pub few : length clauses ≤ 100
+  pub short : AllByRecursion (λ (clause : TreeClause). length clause ≤ 3) clauses

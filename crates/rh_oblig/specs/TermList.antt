@@ -1,6 +1,6 @@
 -- The list of terms of an obligation.
-use Rattle.std.specs.Prelude.{ℕ, zero, suc, ◌+◌, ◌*◌, pos, List, [], ◌∷◌, ◌++◌, Option, Some, None, map, fold, length, slice_get}
-use Rattle.std.specs.List.{range_with_len, flat_map}
+use Rattle.std.specs.Prelude.{◌≡◌, ℕ, zero, suc, ◌<◌, ◌+◌, ◌*◌, pos, List, [], ◌∷◌, ◌++◌, Option, Some, None, map, fold, length, slice_get}
+use Rattle.std.specs.List.{AllByRecursion, range_with_len, flat_map}
 use Rattle.rh_il.specs.declared.value.Op.{Op}
 use Rattle.rh_il.specs.Op.{number_of}
 use Rattle.rh_rule.specs.declared.rule.Form.{Form}
@@ -11,7 +11,7 @@ use Rattle.rh_rule.specs.declared.schema.Param.{Param}
 use Rattle.rh_rule.specs.Params.{kind_of}
 use Rattle.rh_term.specs.declared.term.Term.{Term}
 use Rattle.rh_term.specs.declared.term.Term.TheVariants.{Num, Cst, Addr, Any, Fresh, Answer, Before, Start, Sel, Upd, Op as Computed, Kind, IsNum, IsPtr, Una, Yes}
-use Rattle.rh_oblig.specs.Tree.{Tree, Leaf, with_term, with_tree}
+use Rattle.rh_oblig.specs.Tree.{Tree, Leaf, place_of, with_term, with_tree}
 use Rattle.rh_oblig.specs.Literal.{TreeLit, TreeClause}
 
 -- what a metavariable of a kind is bound to: the address of a variable, or a number
@@ -82,10 +82,16 @@ walked (suc turns) terms place =
       | Some term ↦ walked turns (fold with_term terms (terms_from terms place term)) (place + 1)
     ]
 
--- the list with all terms to which its terms lead, and those lead in turn. No term leads to more than
--- three others, so the list is walked to its end.
+-- the list with all terms to which its terms lead, and those lead in turn. No term of an obligation leads
+-- to more than three others, these to others among them: so the list is walked to its end
 abbrev pub closed : List Term → List Term
 closed terms = walked (4 * length terms) terms 0
+
+-- the terms of the list lead to terms of the list alone
+abbrev pub IsClosed : List Term → Type 0
+IsClosed terms =
+    (place : ℕ) (term : Term) → slice_get terms place ≡ Some term
+    → AllByRecursion (λ other. place_of terms other < length terms) (terms_from terms place term)
 
 -- the list of terms of an obligation
 abbrev pub term_list : List Param → Form → List TreeClause → TreeLit → List Term

@@ -1,13 +1,10 @@
 //! The obligations of a rule.
 ghost use Rattle.std.specs.Prelude.{ℕ, ◌≡◌, ◌<◌, ◌≤◌, ◌^◌, Err, IfOk, None, OnOk, Some, length};
-ghost use Rattle.rh_oblig.specs.Goals.{goals};
-ghost use Rattle.rh_oblig.specs.Hypotheses.{hypotheses};
-ghost use Rattle.rh_oblig.specs.Laws.{HasTermLists};
+ghost use Rattle.rh_rule.specs.RuleFiles.{IsRuleOf, OfRule};
 ghost use Rattle.rh_term.specs.Laws.{denial};
-ghost use Rattle.rh_term.specs.Term.{IsTermList};
-ghost use Rattle.std.specs.List.{AllByRecursion, flat_map};
-ghost use Rattle.rh_oblig.specs.Obligation.{clause_in, clauses_in, first_excess, lit_in, obligation_clauses, obligations_of, parts_of};
-ghost use Rattle.rh_oblig.specs.Sorts.{IsIn, IsSorted};
+ghost use Rattle.std.specs.List.{All, AllByRecursion, flat_map};
+ghost use Rattle.rh_oblig.specs.Obligation.{IsSmall, clause_in, clauses_in, excess, lit_in, obligation_clauses, obligations_of, parts_of};
+ghost use Rattle.rh_oblig.specs.Sorts.{AreFewClauses, IsIn, IsSorted};
 ghost use Rattle.rh_oblig.specs.TermList.{clause_trees, literal_trees, term_list};
 ghost use Rattle.rh_oblig.specs.View.{clauses_of, lit_of, lits_of};
 
@@ -17,7 +14,7 @@ use crate::list::tree_place;
 use crate::literal::TreeLit;
 use crate::term_list::term_list;
 use rh_axioms::{instances, standard};
-use rh_rule::{Rule, Schema};
+use rh_rule::{Rule, RuleFile, Schema};
 use rh_term::{Clause, Lit, Obligation, Terms};
 use std::alloc::{AllocError, AllocFailed, Global};
 use thiserror::Error;
@@ -56,18 +53,34 @@ impl<T: Drop> From<AllocFailed<T>> for ObligFault {
     }
 }
 
-/// What has to be shown of a rule: its obligations in their order, over the schemas of its file.
+/// What has to be shown of a rule of a file: its obligations in their order.
 pub fn obligations(
+    alloc: Global,
+    file: &RuleFile,
+    rule: u32,
+) -> Result<Vec<Obligation>, ObligFault>
+    requires { rule < length file.now.rules }
+    ensures made { IfOk result (λ made. OfRule file.now rule (λ schemas described. parts_of made.items ≡ obligations_of schemas described)) }
+    ensures few { IfOk result (λ made. length made.items < 2 ^ 32) }
+    ensures clauses { IfOk result (λ made. All IsSmall made.items) }
+    ensures terms { OnOk result (OfRule file.now rule (λ schemas described. excess schemas described ≡ None)) }
+    ensures too_many { (count : ℕ) → result ≡ Err (ObligFault.TooManyTerms count)
+        → OfRule file.now rule (λ schemas described. excess schemas described ≡ Some count) }
+{
+    obligations_over(alloc, file.schemas(), &file.rules()[rule as usize])
+}
+
+/// The obligations of a rule over the schemas of its file.
+fn obligations_over(
     alloc: Global,
     schemas: &[Schema],
     rule: &Rule,
 ) -> Result<Vec<Obligation>, ObligFault>
-    requires { length rule.now.params < 2 ^ 32 }
+    requires { IsRuleOf schemas.now rule.now }
     ensures made { IfOk result (λ made. parts_of made.items ≡ obligations_of schemas.now rule.now) }
-    ensures lists { OnOk result (HasTermLists schemas.now rule.now) }
-    ensures small { OnOk result (first_excess schemas.now rule.now (goals schemas.now rule.now) ≡ None) }
-    ensures too_many { (count : ℕ) → result ≡ Err (ObligFault.TooManyTerms count)
-        → first_excess schemas.now rule.now (goals schemas.now rule.now) ≡ Some count }
+    ensures clauses { IfOk result (λ made. All IsSmall made.items) }
+    ensures terms { OnOk result (excess schemas.now rule.now ≡ None) }
+    ensures too_many { (count : ℕ) → result ≡ Err (ObligFault.TooManyTerms count) → excess schemas.now rule.now ≡ Some count }
 {
     let taken = hypotheses(alloc, schemas, rule)?;
     let goals = goals(alloc, schemas, rule)?;
@@ -88,9 +101,10 @@ fn obligation(
     requires few { length rule.now.params < 2 ^ 32 }
     requires taken { AllByRecursion IsSorted (flat_map clause_trees (clauses_of taken.now)) }
     requires goal { AllByRecursion IsSorted (literal_trees (lit_of goal.now)) }
+    requires hypotheses { AreFewClauses (clauses_of taken.now) }
     ensures terms { IfOk result (λ made. made.terms ≡ term_list rule.now.params rule.now.pattern (clauses_of taken.now) (lit_of goal.now)) }
     ensures clauses { IfOk result (λ made. made.clauses ≡ obligation_clauses made.terms (clauses_of taken.now) (lit_of goal.now)) }
-    ensures list { IfOk result (λ made. IsTermList made.terms) }
+    ensures short { IfOk result IsSmall }
     ensures small { OnOk result (length (term_list rule.now.params rule.now.pattern (clauses_of taken.now) (lit_of goal.now)) ≤ 512) }
     ensures too_many { (count : ℕ) → result ≡ Err (ObligFault.TooManyTerms count)
         → (512 < count) × (count ≡ length (term_list rule.now.params rule.now.pattern (clauses_of taken.now) (lit_of goal.now))) }

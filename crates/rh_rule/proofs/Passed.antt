@@ -1,8 +1,8 @@
 -- What schemas and rules that pass every check are known to have.
-use Rattle.std.proofs.Common.{◌≡◌, ℕ, ◌≤◌, Bool, true, false, List, length, Option, Some, None, refl, sym, ap, ◌∙◌}
+use Rattle.std.proofs.Common.{◌≡◌, ℕ, ◌≤◌, Bool, true, false, List, length, Option, Some, None, refl, sym, ap, subst, ◌∙◌}
 use Rattle.std.proofs.lemmas.Bool.{leb-true, and_parts}
 use Rattle.std.proofs.lemmas.Option.{slice_get_within}
-use Rattle.std.specs.Prelude.{slice_get}
+use Rattle.std.specs.Prelude.{IfSome, slice_get}
 use Rattle.std.specs.Option.{option_and_then}
 use Rattle.rh_il.specs.Checks.{first_some}
 use Rattle.rh_il.proofs.Passed.{none_at, none_parts}
@@ -11,7 +11,7 @@ use Rattle.rh_rule.specs.declared.rule.Rule.{Rule}
 use Rattle.rh_rule.specs.declared.fault.RuleWrong.{RuleWrong}
 use Rattle.rh_rule.specs.declared.fault.Item.{Item}
 use Rattle.rh_rule.specs.Checks.{unless, schema_fault, rule_fault, file_fault}
-use Rattle.rh_rule.specs.RuleFiles.{Rules, IsRuleFile, SchemaPassed, RulePassed}
+use Rattle.rh_rule.specs.RuleFiles.{Rules, IsRuleFile, IsRuleOf, OfRule, SchemaPassed, RulePassed}
 
 pub passes : (t : Bool) (kind : RuleWrong) (item : Item) → unless t kind item ≡ None → t ≡ true
 passes true kind item h = refl
@@ -94,3 +94,14 @@ schema_passed file number schema is read =
 pub rule_passed : (file : Rules) (number : ℕ) (rule : Rule) → IsRuleFile file → slice_get file.rules number ≡ Some rule → RulePassed file.schemas rule
 rule_passed file number rule is read =
     rule_parts file.schemas number rule (read_passes (rule_fault file.schemas) file.rules number rule (passed file.schemas file.rules is.passes).each_rule read)
+
+-- a rule that is read of a rule file is one of it
+pub rule_of : (file : Rules) (number : ℕ) (schemas : List Schema) (rule : Rule) → IsRuleFile file → schemas ≡ file.schemas → slice_get file.rules number ≡ Some rule → IsRuleOf schemas rule
+rule_of file number schemas rule is same stands =
+    subst (λ (known : List Schema). IsRuleOf known rule) (sym same) (record { rules = file.rules; number = number; file = is; stands = stands })
+
+-- and what it has over the schemas, the rule with its number has
+pub of_rule : (file : Rules) (number : ℕ) (schemas : List Schema) (rule : Rule) (property : List Schema → Rule → Type 0) → schemas ≡ file.schemas → slice_get file.rules number ≡ Some rule
+    → property schemas rule → OfRule file number property
+of_rule file number schemas rule property same stands has =
+    subst (λ (found : Option Rule). IfSome found (property file.schemas)) (sym stands) (subst (λ (known : List Schema). property known rule) same has)

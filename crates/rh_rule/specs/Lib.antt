@@ -7,4 +7,5 @@ pub mod Kinds
 pub mod Shapes
 pub mod Uses
 pub mod Checks
+pub mod Ranges
 pub mod RuleFiles

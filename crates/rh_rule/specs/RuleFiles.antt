@@ -1,6 +1,6 @@
 -- Rule files: schemas and rules that pass every check.
-use Rattle.std.specs.Prelude.{◌≡◌, ◌≤◌, true, List, None, length}
-use Rattle.std.specs.List.{list_all}
+use Rattle.std.specs.Prelude.{ℕ, ◌≡◌, ◌≤◌, true, List, None, Some, IfSome, length, slice_get}
+use Rattle.std.specs.List.{AllByRecursion, list_all}
 use Rattle.rh_rule.specs.declared.schema.Schema.{Schema}
 use Rattle.rh_rule.specs.declared.rule.Rule.{Rule}
 use Rattle.rh_rule.specs.Words.{are_proper}
@@ -8,15 +8,33 @@ use Rattle.rh_rule.specs.Numbers.{atom_is_below, has_numbers, has_arity}
 use Rattle.rh_rule.specs.Kinds.{atom_has_kinds, has_kinds}
 use Rattle.rh_rule.specs.Shapes.{has_shape, has_slots}
 use Rattle.rh_rule.specs.Checks.{file_fault}
+use Rattle.rh_rule.specs.Ranges.{SchemaNumbersFit, RuleNumbersFit}
 
 pub record Rules : Type 0 where
   pub schemas : List Schema
   pub rules : List Rule
 
--- they pass every check, and their names are proper
+-- the numbers in them are of 64 bits
+pub record FileNumbersFit (file : Rules) : Type 0 where
+  pub schemas : AllByRecursion SchemaNumbersFit file.schemas
+  pub rules : AllByRecursion RuleNumbersFit file.rules
+
+-- they pass every check, their numbers are of 64 bits, and their names are proper
 pub record IsRuleFile (file : Rules) : Type 0 where
+  pub numbers : FileNumbersFit file
   pub names : are_proper file.schemas file.rules ≡ true
   pub passes : file_fault file.schemas file.rules ≡ None
+
+-- the rule is one of a rule file with these schemas
+pub record IsRuleOf (schemas : List Schema) (rule : Rule) : Type 0 where
+  pub rules : List Rule
+  pub number : ℕ
+  pub file : IsRuleFile (record { schemas = schemas; rules = rules })
+  pub stands : slice_get rules number ≡ Some rule
+
+-- the rule with this number in a rule file has the property, over the schemas of the file
+abbrev pub OfRule : Rules → ℕ → (List Schema → Rule → Type 0) → Type 0
+OfRule file number property = IfSome (slice_get file.rules number) (property file.schemas)
 
 -- what each schema of a rule file has
 pub record SchemaPassed (schema : Schema) : Type 0 where

@@ -6,6 +6,7 @@ mod fault;
 mod keyword;
 mod kinds;
 mod numbers;
+mod ranges;
 mod rule;
 mod rule_file;
 mod schema;

@@ -4,6 +4,7 @@ ghost use Rattle.std.specs.Prelude.{◌≡◌, IfOk};
 
 use crate::check::check_file;
 use crate::fault::RuleFault;
+use crate::ranges::numbers_fit;
 use crate::rule::{Conclusion, FactUse, Rule};
 use crate::schema::Schema;
 use rh_list::Items;
@@ -41,6 +42,7 @@ impl RuleFile {
         ensures passes { IfOk result (λ file. file_fault schemas.items rules.items ≡ None) }
         ensures fault { IfErr result (λ fault. file_fault schemas.items rules.items ≡ Some fault) }
     {
+        numbers_fit(schemas.as_slice(), rules.as_slice());
         check_file(schemas.as_slice(), rules.as_slice())?;
         Ok(RuleFile {
             schemas: Items::from(schemas),

@@ -24,10 +24,10 @@ use Rattle.rh_rule.specs.Numbers.{is_below, are_below, fact_is_below, side_is_be
 use Rattle.rh_rule.specs.Kinds.{is_var_base, is_const_base, is_of_variables, is_of_numbers, side_has_kinds, form_has_kinds, fact_has_kinds}
 use Rattle.rh_rule.specs.Shapes.{has_wild, is_pattern, is_statement, fact_has_shape, conclusion_has_shape}
 use Rattle.rh_rule.specs.Checks.{schema_fault, rule_fault}
-use Rattle.rh_rule.specs.RuleFiles.{Rules, IsRuleFile, SchemaPassed, RulePassed}
+use Rattle.rh_rule.specs.RuleFiles.{FileNumbersFit, Rules, IsRuleFile, SchemaPassed, RulePassed}
 use Rattle.rh_rule.proofs.Passed.{passed, schema_passed, rule_passed}
 use Rattle.rh_list.proofs.AtPlace.{has_at, passes_at}
-use Rattle.rh_rule_text.specs.Ranges.{NumberFits, NumbersFit, SchemaNumbersFit, UseNumbersFit, SideNumbersFit, ConclusionNumbersFit, RuleNumbersFit, FileNumbersFit}
+use Rattle.rh_rule.specs.Ranges.{NumberFits, NumbersFit, SchemaNumbersFit, UseNumbersFit, SideNumbersFit, ConclusionNumbersFit, RuleNumbersFit}
 use Rattle.rh_rule_source.proofs.SourceInRange.{IsFilled}
 use Rattle.rh_rule_text.proofs.Each.{not_true, each_has, each_passes, each_of_three, some_first}
 use Rattle.rh_il.proofs.Passed.{none_at}

@@ -28,7 +28,7 @@ use Rattle.rh_list.proofs.AtPlace.{passes_at, read_at}
 use Rattle.rh_rule_text.specs.Resolve.{place_of, meaning_base, rule_base, rule_operand, rule_param}
 use Rattle.rh_rule_text.specs.Unknown.{first_of, unknown, unknown_base, unknown_operand}
 use Rattle.rh_rule_text.specs.Text.{param_name, param_text, params_text, base_text, operand_text}
-use Rattle.rh_rule_text.specs.Ranges.{MeaningNumberFits, NumberFits}
+use Rattle.rh_rule.specs.Ranges.{MeaningNumberFits, NumberFits}
 use Rattle.rh_rule_source.proofs.SourceInRange.{BaseInRange, OperandInRange, OperationInRange}
 use Rattle.rh_rule_text.proofs.Each.{each_passes}
 use Rattle.rh_rule_text.proofs.Prints.{Prints, Always, Ends, tells, as_text, in_fewer, behind, fixed_behind, fixed_before}

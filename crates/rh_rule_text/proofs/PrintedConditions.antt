@@ -29,7 +29,7 @@ use Rattle.rh_list.proofs.AtPlace.{passes_at, read_at}
 use Rattle.rh_rule_text.specs.Resolve.{place_of, rule_base, fact_of, side_term, compared_side, premises_of, sides_of}
 use Rattle.rh_rule_text.specs.Unknown.{unknown, unknown_base, unknown_use, unknown_side, unknown_cond, first_of}
 use Rattle.rh_rule_text.specs.Text.{operand_text, schema_name, fact_text, premise_text, side_term_text, side_text, listed, conditions_text}
-use Rattle.rh_rule_text.specs.Ranges.{NumberFits, NumbersFit}
+use Rattle.rh_rule.specs.Ranges.{NumberFits, NumbersFit}
 use Rattle.rh_rule_source.proofs.SourceInRange.{BaseInRange, UseInRange, SideInRange, CondInRange, IsFilled}
 use Rattle.rh_rule_text.proofs.Each.{each_passes, each_fails, each_both, filled}
 use Rattle.rh_rule_text.proofs.Prints.{Prints, Exactly, Always, Ends, tells, as_text, behind, fixed_behind, fixed_before, anywhere, nothing}

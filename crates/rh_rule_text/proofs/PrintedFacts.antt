@@ -22,7 +22,7 @@ use Rattle.rh_rule_source.specs.Source.{term_words, atom_words, fact_words, rela
 use Rattle.rh_rule_text.specs.Resolve.{place_of, meaning_base, meaning_term, meaning_atom, compared_atom, rule_param, metas_of, schema_of}
 use Rattle.rh_rule_text.specs.Unknown.{unknown, unknown_term, unknown_atom, unknown_fact, first_of}
 use Rattle.rh_rule_text.specs.Text.{term_text, atom_text, schema_text}
-use Rattle.rh_rule_text.specs.Ranges.{TermNumbersFit, AtomNumbersFit}
+use Rattle.rh_rule.specs.Ranges.{TermNumbersFit, AtomNumbersFit}
 use Rattle.rh_rule_source.proofs.SourceInRange.{TermInRange, AtomInRange, FactInRange, IsFilled}
 use Rattle.rh_rule_text.proofs.Each.{each_passes, each_both, filled}
 use Rattle.rh_rule_text.proofs.Prints.{Prints, Exactly, Always, Ends, tells, behind, fixed_behind, fixed_before, anywhere}

@@ -19,7 +19,7 @@ use Rattle.rh_rule_source.specs.Source.{operand_words, right_words, form_words, 
 use Rattle.rh_rule_text.specs.Resolve.{place_of, rule_operand, rule_base, assigned, rule_form, rule_pattern}
 use Rattle.rh_rule_text.specs.Unknown.{unknown, unknown_operand, unknown_right, unknown_form, unknown_pattern}
 use Rattle.rh_rule_text.specs.Text.{to_text, form_text, operand_text, param_name}
-use Rattle.rh_rule_text.specs.Ranges.{NumberFits, NumbersFit}
+use Rattle.rh_rule.specs.Ranges.{NumberFits, NumbersFit}
 use Rattle.rh_rule_source.proofs.SourceInRange.{OperandInRange, RightInRange, FormInRange, PatternInRange}
 use Rattle.rh_rule_text.proofs.Each.{not_true}
 use Rattle.rh_rule_text.proofs.Prints.{Prints, Exactly, Always, Ends, tells, as_text, behind, fixed_behind, fixed_before, anywhere}

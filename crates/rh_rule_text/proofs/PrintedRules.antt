@@ -19,7 +19,7 @@ use Rattle.rh_rule_source.specs.Source.{form_words, conclusion_words, rule_words
 use Rattle.rh_rule_text.specs.Resolve.{rule_form, conclusion_of, rule_of, rule_pattern, premises_of, sides_of, metas_of}
 use Rattle.rh_rule_text.specs.Unknown.{unknown_form, unknown_conclusion, unknown_rule, unknown_pattern, unknown_cond, first_of}
 use Rattle.rh_rule_text.specs.Text.{conclusion_text, rule_text}
-use Rattle.rh_rule_text.specs.Ranges.{NumbersFit}
+use Rattle.rh_rule.specs.Ranges.{NumbersFit}
 use Rattle.rh_rule_source.proofs.SourceInRange.{FormInRange, ConclusionInRange, RuleInRange}
 use Rattle.rh_rule_text.proofs.Prints.{Prints, Always, Ends, tells, behind, fixed_behind, fixed_before}
 use Rattle.rh_rule_text.proofs.FixedTexts.{at_text, slot_printed, transform_text, rule_word_text, open_brace_text, close_brace_text, arrow_text}

@@ -11,7 +11,6 @@ use Rattle.rh_rule_source.specs.Words.{said, word_of, class_of}
 use Rattle.rh_rule_source.specs.Source.{file_words}
 use Rattle.rh_rule_source.specs.Spelling.{Spells}
 use Rattle.rh_rule_text.specs.Text.{file_text}
-use Rattle.rh_rule_text.specs.Ranges.{FileNumbersFit}
 use Rattle.rh_rule_text.specs.Reading.{IsText}
 use Rattle.rh_rule_source.proofs.DerivedRules.{words_are_derivable}
 use Rattle.rh_rule_text.proofs.Prints.{Prints, Always}
@@ -40,5 +39,5 @@ is_text text rules prints passes =
     record { source = tells.source; spells = spells text rules prints; known = tells.known; told = sym tells.means; passes = passes }
 
 -- the canonical text of a rule file is read as that rule file
-pub printed_is_text : (rules : Rules) → IsRuleFile rules → FileNumbersFit rules → IsText (file_text rules) rules
-printed_is_text rules is numbers = is_text (file_text rules) rules (file_printed rules (file_fits rules is numbers)) is.passes
+pub printed_is_text : (rules : Rules) → IsRuleFile rules → IsText (file_text rules) rules
+printed_is_text rules is = is_text (file_text rules) rules (file_printed rules (file_fits rules is is.numbers)) is.passes

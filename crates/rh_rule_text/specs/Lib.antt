@@ -4,4 +4,3 @@ pub mod Reading
 pub mod Answer
 pub mod Proper
 pub mod Text
-pub mod Ranges

@@ -5,7 +5,6 @@ mod fault;
 mod file;
 mod header;
 mod printer;
-mod ranges;
 mod reader;
 mod resolve;
 mod unknown;

@@ -10,7 +10,6 @@ mod forms;
 mod parts;
 mod rules;
 
-use crate::ranges::file_fits;
 use facts::push_schemas;
 use rh_print::push;
 use rh_rule::RuleFile;
@@ -22,7 +21,6 @@ pub fn print_rules(alloc: Global, rules: &RuleFile) -> Result<Vec<u8>, AllocErro
     ensures text { IfOk result (λ text. text.items ≡ file_text rules.now) }
     ensures again { IfOk result (λ text. IsText text.items rules.now) }
 {
-    file_fits(rules);
     let mut out = Vec::new(alloc);
     push(&mut out, b"rhodium 1;\n")?;
     push_schemas(alloc, &mut out, rules.schemas())?;

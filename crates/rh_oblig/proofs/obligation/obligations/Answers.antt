@@ -1,79 +1,38 @@
-use Rattle.std.proofs.Common.{◌≡◌, ◌≤◌, ◌++◌, [], ◌∷◌, List, Err, map, length, take, get_or, sym, subst, ap, ◌∙◌}
-use Rattle.std.specs.List.{AllByRecursion, flat_map}
-use Rattle.std.proofs.lemmas.List.{map-append}
+use Rattle.std.proofs.Common.{◌≡◌, ◌<◌, ◌^◌, ℕ, List, Err, Some, None, length, get_or, sym, ◌∙◌, ap}
+use Rattle.std.specs.Prelude.{slice_get}
+use Rattle.std.proofs.lemmas.Option.{slice_get-get_or}
+use Rattle.rh_rule.specs.declared.rule.Rule.{Rule}
+use Rattle.rh_rule.specs.RuleFiles.{IsRuleOf, OfRule}
+use Rattle.rh_rule.proofs.Passed.{of_rule, rule_of}
 use Rattle.rh_term.specs.declared.obligation.Obligation.{Obligation}
-use Rattle.rh_term.specs.declared.term.Term.{Term}
-use Rattle.rh_term.specs.declared.clause.Clause.{Clause}
-use Rattle.rh_term.specs.Term.{IsTermList}
-use Rattle.rh_oblig.specs.declared.literal.TreeLit.{TreeLit as BuiltLit}
-use Rattle.rh_oblig.specs.declared.hypotheses.TreeClause.{TreeClause as BuiltClause}
-use Rattle.rh_oblig.specs.declared.obligation.ObligFault.TheVariants.{TooManyTerms}
-use Rattle.rh_oblig.specs.Goals.{goals as goals_of}
-use Rattle.rh_oblig.specs.Hypotheses.{hypotheses}
-use Rattle.rh_oblig.specs.Literal.{TreeLit, TreeClause}
-use Rattle.rh_oblig.specs.Obligation.{first_excess, parts_of, terms_of}
-use Rattle.rh_oblig.specs.Sorts.{IsSorted}
-use Rattle.rh_oblig.specs.TermList.{clause_trees, literal_trees, term_list}
-use Rattle.rh_oblig.specs.View.{clauses_of, lit_of, lits_of}
-use Rattle.rh_oblig.proofs.Each.{err_is, excess_more, list_more, part_for, part_is, parts_more, sorted_at, too_many_at}
-use Rattle.rh_oblig.proofs.RuleTrees.{goals_sorted, hypotheses_sorted}
+use Rattle.rh_oblig.specs.Obligation.{excess, obligations_of, parts_of}
+use Rattle.rh_oblig.proofs.Sizes.{made_few, ok_leads, on_ok_leads, read_at}
 use Rattle.rh_oblig.proofs.obligation.obligations.Goals as goal
 
-abbrev Part : Type 0
-Part = List Term × List Clause
+pub obligations_over-requires : goal.obligations_over-requires
+obligations_over-requires c =
+    rule_of c.args.file.now c.args.rule c.schemas.result.now c.index-rules-rule.result c.schemas.ensures.file c.schemas.ensures.value
+    (read_at c.args.file.now.rules c.rules.result.now c.args.rule c.index-rules-rule.result c.requires c.rules.ensures.value c.index-rules-rule.is)
 
-abbrev part_of : Obligation → Part
-part_of obligation = (obligation.terms, obligation.clauses)
+pub returns-clause-few : goal.returns-clause-few
+returns-clause-few c =
+    let is : IsRuleOf c.schemas.result.now c.index-rules-rule.result =
+    rule_of c.args.file.now c.args.rule c.schemas.result.now c.index-rules-rule.result c.schemas.ensures.file c.schemas.ensures.value
+    (read_at c.args.file.now.rules c.rules.result.now c.args.rule c.index-rules-rule.result c.requires c.rules.ensures.value c.index-rules-rule.is) in
+    ok_leads (λ made. parts_of made.items ≡ obligations_of c.schemas.result.now c.index-rules-rule.result) (λ made. length made.items < 2 ^ 32) c.obligations_over.result
+    (λ made same. made_few c.schemas.result.now c.index-rules-rule.result made.items is same) c.obligations_over.ensures.made
 
-pub obligation-requires-clause-taken : goal.obligation-requires-clause-taken
-obligation-requires-clause-taken c =
-    let known : clauses_of c.as_slice.result.now ≡ hypotheses c.args.schemas.now c.args.rule.now =
-    ap (λ (clauses : List BuiltClause). clauses_of clauses) c.as_slice.ensures.value ∙ c.in_ok-taken.ensures in
-    subst (λ (clauses : List TreeClause). AllByRecursion IsSorted (flat_map clause_trees clauses)) (sym known) (hypotheses_sorted c.args.schemas.now c.args.rule.now)
+pub returns-clause-terms : goal.returns-clause-terms
+returns-clause-terms c =
+    let stands : slice_get c.args.file.now.rules c.args.rule ≡ Some c.index-rules-rule.result =
+    read_at c.args.file.now.rules c.rules.result.now c.args.rule c.index-rules-rule.result c.requires c.rules.ensures.value c.index-rules-rule.is in
+    on_ok_leads (excess c.schemas.result.now c.index-rules-rule.result ≡ None) (OfRule c.args.file.now c.args.rule (λ schemas rule. excess schemas rule ≡ None)) c.obligations_over.result
+    (λ none. of_rule c.args.file.now c.args.rule c.schemas.result.now c.index-rules-rule.result (λ schemas rule. excess schemas rule ≡ None) c.schemas.ensures.value stands none)
+    c.obligations_over.ensures.terms
 
-pub obligation-requires-clause-goal : goal.obligation-requires-clause-goal
-obligation-requires-clause-goal c =
-    let goals : List BuiltLit = c.as_slice-goal-items.result.now in
-    let item : BuiltLit = c.goal-item.result in
-    let all : lits_of goals ≡ goals_of c.args.schemas.now c.args.rule.now =
-    ap (λ (lits : List BuiltLit). lits_of lits) c.as_slice-goal-items.ensures.value ∙ c.in_ok-goals.ensures in
-    subst (λ (goal : BuiltLit). AllByRecursion IsSorted (literal_trees (lit_of goal))) (sym c.goal-item.is)
-    (sorted_at goals c.loop-goal.goal-index item c.loop-goal-test.true
-    (subst (λ (lits : List TreeLit). AllByRecursion (λ lit. AllByRecursion IsSorted (literal_trees lit)) lits) (sym all) (goals_sorted c.args.schemas.now c.args.rule.now)))
-
-pub returns-in_err-obligation-clause-too_many : goal.returns-in_err-obligation-clause-too_many
-returns-in_err-obligation-clause-too_many c =
-    let schemas = c.args.schemas.now in
-    let rule = c.args.rule.now in
-    let goals : List BuiltLit = c.as_slice-goal-items.result.now in
-    let taken : List TreeClause = clauses_of c.as_slice.result.now in
-    let known : taken ≡ hypotheses schemas rule = ap (λ (clauses : List BuiltClause). clauses_of clauses) c.as_slice.ensures.value ∙ c.in_ok-taken.ensures in
-    let all : lits_of goals ≡ goals_of schemas rule = ap (λ (lits : List BuiltLit). lits_of lits) c.as_slice-goal-items.ensures.value ∙ c.in_ok-goals.ensures in
-    λ count is. ap (first_excess schemas rule) (sym all)
-    ∙ too_many_at schemas rule taken goals c.loop-goal.goal-index c.goal-item.result count known c.loop-goal-test.true c.goal-item.is c.loop-goal.invariant.small
-    (c.in_err-obligation.ensures.too_many count (ap Err (err_is c.from_residual-in_err-obligation.result c.in_err-obligation.field-0.0 (TooManyTerms count) c.from_residual-in_err-obligation.ensures.1 is)))
-
-pub loop-goal-preserved : goal.loop-goal-preserved
-loop-goal-preserved c =
-    let schemas = c.args.schemas.now in
-    let rule = c.args.rule.now in
-    let goals : List BuiltLit = c.as_slice-goal-items.result.now in
-    let i = c.loop-goal.goal-index in
-    let item : BuiltLit = c.goal-item.result in
-    let taken : List TreeClause = clauses_of c.as_slice.result.now in
-    let known : taken ≡ hypotheses schemas rule = ap (λ (clauses : List BuiltClause). clauses_of clauses) c.as_slice.ensures.value ∙ c.in_ok-taken.ensures in
-    let made : (c.in_ok-obligation.field-0.terms, c.in_ok-obligation.field-0.clauses) ≡ part_for schemas rule (lit_of item) =
-    part_is schemas rule taken (lit_of item) c.in_ok-obligation.field-0.terms c.in_ok-obligation.field-0.clauses known c.in_ok-obligation.ensures.terms c.in_ok-obligation.ensures.clauses in
-    let size : length (term_list rule.params rule.pattern taken (lit_of item)) ≡ length (terms_of schemas rule (lit_of (get_or goals i item))) =
-    ap (λ (known : List TreeClause). length (term_list rule.params rule.pattern known (lit_of item))) known
-    ∙ ap (λ (goal : BuiltLit). length (terms_of schemas rule (lit_of goal))) c.goal-item.is in
-    record {
-      made = ap parts_of c.in_ok-push.ensures.items
-          ∙ map-append part_of c.loop-goal.made.items (c.in_ok-obligation.field-0 ∷ [])
-          ∙ ap (λ (front : List Part). front ++ part_of c.in_ok-obligation.field-0 ∷ []) c.loop-goal.invariant.made
-          ∙ ap (λ (part : Part). map (part_for schemas rule) (lits_of (take i goals)) ++ part ∷ []) (made ∙ ap (λ (goal : BuiltLit). part_for schemas rule (lit_of goal)) c.goal-item.is)
-          ∙ sym (parts_more schemas rule goals i item c.loop-goal-test.true);
-      lists = list_more schemas rule goals i item c.loop-goal-test.true c.loop-goal.invariant.lists
-          (subst IsTermList (ap (λ (part : Part). part.0) made ∙ ap (λ (goal : BuiltLit). terms_of schemas rule (lit_of goal)) c.goal-item.is) c.in_ok-obligation.ensures.list);
-      small = excess_more schemas rule goals i item c.loop-goal-test.true c.loop-goal.invariant.small (subst (λ n. n ≤ 512) size c.in_ok-obligation.ensures.small);
-    }
+pub returns-clause-too_many : goal.returns-clause-too_many
+returns-clause-too_many c = λ count is.
+    let stands : slice_get c.args.file.now.rules c.args.rule ≡ Some c.index-rules-rule.result =
+    read_at c.args.file.now.rules c.rules.result.now c.args.rule c.index-rules-rule.result c.requires c.rules.ensures.value c.index-rules-rule.is in
+    of_rule c.args.file.now c.args.rule c.schemas.result.now c.index-rules-rule.result (λ schemas rule. excess schemas rule ≡ Some count) c.schemas.ensures.value stands
+    (c.obligations_over.ensures.too_many count is)

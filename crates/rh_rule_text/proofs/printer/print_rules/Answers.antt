@@ -8,4 +8,4 @@ use Rattle.rh_rule_text.proofs.printer.print_rules.Goals as goal
 pub returns-clause-again : goal.returns-clause-again
 returns-clause-again c =
     let text : c.push_rules.new.out.items ≡ file_text c.args.rules.now = search rules in
-    subst (λ text. IsText text c.args.rules.now) (sym text) (printed_is_text c.args.rules.now c.schemas.ensures.file c.file_fits.ensures)
+    subst (λ text. IsText text c.args.rules.now) (sym text) (printed_is_text c.args.rules.now c.schemas.ensures.file)

@@ -1,4 +1,4 @@
--- The numbers of a rule file are those of 64 bits.
+-- The numbers of schemas and rules are those of 64 bits.
 use Rattle.std.specs.Prelude.{◌<◌, ◌^◌, ℤ, List}
 use Rattle.std.specs.Int.Signed.{mag}
 use Rattle.std.specs.List.{AllByRecursion}
@@ -17,7 +17,6 @@ use Rattle.rh_rule.specs.declared.rule.Conclusion.{Conclusion}
 use Rattle.rh_rule.specs.declared.rule.Conclusion.TheVariants.{Fact as ConcludesFact, Transform as ConcludesForm}
 use Rattle.rh_rule.specs.declared.rule.Rule.{Rule}
 use Rattle.rh_rule.specs.Operands.{operands, term_operands, side_terms}
-use Rattle.rh_rule.specs.RuleFiles.{Rules}
 
 -- an i64
 abbrev pub FitsI64 : ℤ → Type 0
@@ -66,7 +65,3 @@ pub record RuleNumbersFit (rule : Rule) : Type 0 where
   pub premises : AllByRecursion UseNumbersFit rule.premises
   pub sides : AllByRecursion SideNumbersFit rule.sides
   pub conclusion : ConclusionNumbersFit rule.conclusion
-
-pub record FileNumbersFit (file : Rules) : Type 0 where
-  pub schemas : AllByRecursion SchemaNumbersFit file.schemas
-  pub rules : AllByRecursion RuleNumbersFit file.rules

@@ -1,14 +1,12 @@
-//! The numbers of a rule file are those of 64 bits. The type of a number says so of one number; the
-//! functions here say it of what holds numbers. They change nothing.
+//! The numbers of schemas and rules are those of 64 bits. The type of a number says so of one number;
+//! the functions here say it of what holds numbers. They change nothing.
 
 ghost use Rattle.std.specs.List.{AllByRecursion};
-ghost use Rattle.rh_rule_text.specs.Ranges.{MeaningNumberFits, TermNumbersFit, AtomNumbersFit, SchemaNumbersFit, NumberFits, NumbersFit, UseNumbersFit, SideNumbersFit, ConclusionNumbersFit, RuleNumbersFit, FileNumbersFit};
+ghost use Rattle.rh_rule.specs.Ranges.{MeaningNumberFits, TermNumbersFit, AtomNumbersFit, SchemaNumbersFit, NumberFits, NumbersFit, UseNumbersFit, SideNumbersFit, ConclusionNumbersFit, RuleNumbersFit};
 ghost use Rattle.rh_rule.specs.Operands.{operands, term_operands};
 
-use rh_rule::{
-    Conclusion, FactUse, Form, MeaningAtom, MeaningBase, MeaningTerm, Rule, RuleBase, RuleFile,
-    Schema, Side, SideTerm,
-};
+use crate::rule::{Conclusion, FactUse, Form, Rule, RuleBase, Side, SideTerm};
+use crate::schema::{MeaningAtom, MeaningBase, MeaningTerm, Schema};
 
 /// What holds numbers.
 trait HoldsNumbers: Drop {
@@ -169,10 +167,11 @@ impl HoldsNumbers for Rule {
     }
 }
 
-/// The numbers of a rule file.
-pub(crate) fn file_fits(rules: &RuleFile)
-    ensures { FileNumbersFit rules.now }
+/// The numbers of the schemas and rules of a file.
+pub(crate) fn numbers_fit(schemas: &[Schema], rules: &[Rule])
+    ensures schemas { AllByRecursion SchemaNumbersFit schemas.now }
+    ensures rules { AllByRecursion RuleNumbersFit rules.now }
 {
-    all_fit(rules.schemas());
-    all_fit(rules.rules());
+    all_fit(schemas);
+    all_fit(rules);
 }
