@@ -1,5 +1,5 @@
 -- On good files a call of `opt` is done, or memory ran out.
-use Rattle.std.proofs.Common.{ℕ, ◌≡◌, List, [], ◌∷◌, Some, codes, refl, sym, ◌∙◌, subst}
+use Rattle.std.proofs.Common.{ℕ, ◌≡◌, List, [], ◌∷◌, codes, refl, sym, ◌∙◌, subst}
 use Rattle.std.specs.Prelude.{IfSome}
 use Rattle.rh_admit.specs.Rules.{IsFirstExcess}
 use Rattle.rh_rule.specs.RuleFiles.{Rules}

@@ -1,5 +1,5 @@
 -- The steps of a call, each with the statuses with which it refuses, and why. Memory may run out in each.
-use Rattle.std.specs.Prelude.{ℕ, ◌≡◌, List, Option, None, IfSome}
+use Rattle.std.specs.Prelude.{ℕ, ◌≡◌, List, None, IfSome}
 use Rattle.rh_admit.specs.declared.all.AdmitFault.{AdmitFault}
 use Rattle.rh_admit.specs.declared.all.AdmitFault.TheVariants.{TooManyTerms, NoMemory as NoAdmitMemory}
 use Rattle.rh_admit.specs.Rules.{IsFirstExcess, excess}
