@@ -12,7 +12,6 @@ use Rattle.rh_term.specs.declared.term.Term.TheVariants.{Num}
 use Rattle.rh_term.specs.Place.{place_in}
 use Rattle.rh_axioms.specs.declared.computed.Computed.{Computed}
 use Rattle.rh_axioms.specs.declared.computed.Number.{Number}
-use Rattle.rh_axioms.specs.declared.computed.Triple.{Triple}
 use Rattle.rh_axioms.specs.declared.instance.Instance.{Instance}
 use Rattle.rh_axioms.specs.declared.instance.Instance.TheVariants.{Three}
 use Rattle.rh_axioms.specs.Computed.{number_at, numbers_of, triple_of, triples_with, triples_of, triples_in, has_operator, HasTriples, clause_with, by_triples}

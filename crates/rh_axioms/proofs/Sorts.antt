@@ -14,7 +14,7 @@ use Rattle.rh_il.specs.declared.value.Op.TheVariants.{Add, Sub, Mul, Less, Equal
 use Rattle.rh_il.specs.declared.value.Value.{Value}
 use Rattle.rh_il.specs.declared.value.Value.TheVariants.{Num as ANumber, Ptr as APointer}
 use Rattle.rh_term.specs.declared.term.Term.{Term}
-use Rattle.rh_term.specs.declared.term.Term.TheVariants.{Num, Cst, Addr, Any, Fresh, Answer, Before, After, Start, Sel, Upd, Op, Kind, IsNum, IsPtr, Una, Yes}
+use Rattle.rh_term.specs.declared.term.Term.TheVariants.{Num, Cst, Addr, Any, Fresh, Answer, Before, After, Start, Sel, Upd, Op}
 use Rattle.rh_term.specs.Term.{IsTermList, HasNumber, is_at, is_value_term, is_store_term}
 use Rattle.rh_term.specs.Store.{nothing, read, write, select, update}
 use Rattle.rh_term.specs.Model.{Model, IsModel, Denotation, AValue, AStore, AKind, AnAnswer, value_of, store_of, value_at, store_at, denotation_at, denotation_in, denotations}

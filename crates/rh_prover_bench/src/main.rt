@@ -1,18 +1,20 @@
-//! Rules on random rules, and prints how hard their obligations were. The words of the command line
-//! are the seed and how many rules are made, and after these `time`, where the microseconds are to be
-//! printed too.
+//! Times the prover. The words of the command line are `random`, a seed and a number of random rules;
+//! `hard` and the splits of an obligation that is made to be hard; or `atoms` and the side conditions of
+//! a rule with many numbers. Times go to standard error.
 #![tactic(auto)]
 
+mod atoms;
 mod hard;
 mod random;
 mod rules;
 mod shapes;
 
+use atoms::rule_of_atoms;
 use hard::hard_obligation;
-use random::Random;
+use rand_pcg::Pcg32;
 use rh_admit::admit_rule;
 use rh_log::Admission;
-use rh_oblig::ObligFault;
+use rh_oblig::{ObligFault, obligations};
 use rh_refuter::{Verdict, is_small, refute};
 use rh_rule::{Rule, Schema};
 use rules::{random_rule, random_schemas};
@@ -20,36 +22,8 @@ use std::alloc::{AllocError, Global};
 use std::time::Instant;
 use std::{env, io};
 
-/// What is asked for.
-#[derive(Clone, Copy)]
-struct Request {
-    seed: u64,
-    rules: u32,
-    timed: bool,
-    splits: Option<u32>,
-}
-
-/// Reads the words of the command line. A number that cannot be read is 0.
-fn read_words(words: env::Args) -> Request {
-    let mut request = Request {
-        seed: 0,
-        rules: 0,
-        timed: false,
-        splits: None,
-    };
-    for (place, word) in words.enumerate() {
-        match place {
-            1 => request.seed = word.parse().unwrap_or(0),
-            2 => request.rules = word.parse().unwrap_or(0),
-            3 => request.timed = word.as_str() == "time",
-            4 => request.splits = word.parse().ok(),
-            _ => {}
-        }
-    }
-    request
-}
-
 /// What came of a rule: its nodes, where it is admitted.
+#[derive(Clone, Copy)]
 enum Outcome {
     Admitted(usize),
     Refused,
@@ -65,9 +39,7 @@ fn rule_on(alloc: Global, schemas: &[Schema], rule: &Rule) -> Outcome {
         Ok(Admission::Admitted(logs)) => {
             let mut most = 0;
             for log in logs.as_slice() {
-                if log.nodes.len() > most {
-                    most = log.nodes.len();
-                }
+                most = most.max(log.nodes.len());
             }
             Outcome::Admitted(most)
         }
@@ -91,15 +63,40 @@ impl Counts {
         match outcome {
             Outcome::Admitted(nodes) => {
                 self.admitted = self.admitted.saturating_add(1);
-                if nodes > self.nodes {
-                    self.nodes = nodes;
-                }
+                self.nodes = self.nodes.max(nodes);
             }
             Outcome::Refused => self.refused = self.refused.saturating_add(1),
             Outcome::TooManyTerms => self.large = self.large.saturating_add(1),
             Outcome::NoMemory => {}
         }
     }
+}
+
+/// Rules on random rules.
+fn time_random(rt: &HostRuntime, seed: u64, rules: u32) -> io::Result<()> {
+    let mut random = Pcg32::new(seed, 0);
+    let mut counts = Counts {
+        admitted: 0,
+        refused: 0,
+        large: 0,
+        nodes: 0,
+    };
+    let mut longest = 0;
+    let start = Instant::now(rt)?;
+    for _ in 0..rules {
+        let schemas = random_schemas(rt.alloc(), &mut random)?;
+        let rule = random_rule(rt.alloc(), &mut random)?;
+        let before = Instant::now(rt)?;
+        counts.add(rule_on(rt.alloc(), schemas.as_slice(), &rule));
+        longest = before.elapsed(rt)?.as_micros().max(longest);
+    }
+    let all = start.elapsed(rt)?.as_millis();
+    println!(rt;
+        "{} admitted, {} refused, {} too large; at most {} nodes",
+        counts.admitted, counts.refused, counts.large, counts.nodes
+    )?;
+    eprintln!(rt; "{all} ms in all, at most {longest} us for a rule")?;
+    Ok(())
 }
 
 /// The nodes of the closed tree of the obligation with so many splits, and 0 where there is none.
@@ -119,45 +116,57 @@ fn hard_nodes(alloc: Global, splits: u32) -> Result<usize, AllocError> {
     })
 }
 
-fn main(rt: HostRuntime) -> io::Result<()> {
-    let request = read_words(env::args(&rt)?);
-    let mut random = Random::new(request.seed);
-    let mut counts = Counts {
-        admitted: 0,
-        refused: 0,
-        large: 0,
-        nodes: 0,
-    };
-    let mut longest = 0;
-    let mut hardest = 0;
-    let start = Instant::now(&rt)?;
-    for number in 0..request.rules {
-        let schemas = random_schemas(rt.alloc(), &mut random)?;
-        let rule = random_rule(rt.alloc(), &mut random)?;
-        let before = Instant::now(&rt)?;
-        counts.add(rule_on(rt.alloc(), schemas.as_slice(), &rule));
-        let taken = before.elapsed(&rt)?.as_micros();
-        if taken > longest {
-            longest = taken;
-            hardest = number;
-        }
-    }
-    let all = start.elapsed(&rt)?.as_millis();
-    println!(rt;
-        "{} admitted, {} refused, {} too large; at most {} nodes",
-        counts.admitted, counts.refused, counts.large, counts.nodes
-    )?;
-    if request.timed {
-        println!(rt; "  {all} ms in all, at most {longest} us, at rule {hardest}")?;
-    }
-    if let Some(splits) = request.splits {
-        let before = Instant::now(&rt)?;
-        let nodes = hard_nodes(rt.alloc(), splits)?;
-        let taken = before.elapsed(&rt)?.as_micros();
-        println!(rt; "{splits} splits: {nodes} nodes")?;
-        if request.timed {
-            println!(rt; "  {taken} us")?;
-        }
-    }
+/// Refutes an obligation that is made to be hard.
+fn time_hard(rt: &HostRuntime, splits: u32) -> io::Result<()> {
+    let before = Instant::now(rt)?;
+    let nodes = hard_nodes(rt.alloc(), splits)?;
+    let taken = before.elapsed(rt)?.as_micros();
+    println!(rt; "{splits} splits: {nodes} nodes")?;
+    eprintln!(rt; "{taken} us")?;
     Ok(())
+}
+
+/// The terms of the first obligation of a rule.
+fn terms_of(alloc: Global, rule: &Rule) -> u32 {
+    if rule.params.len() > 6 {
+        return 0;
+    }
+    match obligations(alloc, &[], rule) {
+        Ok(made) => made.as_slice().first().map_or(0, |first| first.terms.len()),
+        Err(_) => 0,
+    }
+}
+
+/// Rules on a rule with many numbers.
+fn time_atoms(rt: &HostRuntime, atoms: u32) -> io::Result<()> {
+    let rule = rule_of_atoms(rt.alloc(), &mut Pcg32::new(1, 0), atoms)?;
+    let terms = terms_of(rt.alloc(), &rule);
+    let before = Instant::now(rt)?;
+    let _outcome = rule_on(rt.alloc(), &[], &rule);
+    let taken = before.elapsed(rt)?.as_micros();
+    println!(rt; "{atoms} side conditions: {terms} terms")?;
+    eprintln!(rt; "{taken} us")?;
+    Ok(())
+}
+
+/// The number that a word spells, and 0 where it spells none.
+fn number(word: Option<String>) -> u32 {
+    match word {
+        Some(word) => word.parse().unwrap_or(0),
+        None => 0,
+    }
+}
+
+fn main(rt: HostRuntime) -> io::Result<()> {
+    let mut words = env::args(&rt)?;
+    let _program = words.next();
+    let kind = words.next();
+    let first = number(words.next());
+    let second = number(words.next());
+    match kind.as_deref() {
+        Some("random") => time_random(&rt, u64::from(first), second),
+        Some("hard") => time_hard(&rt, first),
+        Some("atoms") => time_atoms(&rt, first),
+        _ => Ok(()),
+    }
 }

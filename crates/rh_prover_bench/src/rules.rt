@@ -1,13 +1,14 @@
 //! Random rules.
-use crate::random::Random;
+use crate::random::below;
 use crate::shapes::{atom, base, form, side, variable};
+use rand_pcg::Pcg32;
 use rh_il::{Name, Slot};
 use rh_list::Items;
 use rh_rule::{Conclusion, FactUse, Kind, Param, Rule, RuleBase, Schema};
 use std::alloc::{AllocError, AllocFailed, Global};
 
 /// Three schemas of four parameters, with four atoms each.
-pub fn random_schemas(alloc: Global, random: &mut Random) -> Result<Vec<Schema>, AllocError> {
+pub fn random_schemas(alloc: Global, random: &mut Pcg32) -> Result<Vec<Schema>, AllocError> {
     let mut schemas = Vec::new(alloc);
     for _ in 0..3 {
         let mut meaning = Items::new(alloc);
@@ -24,7 +25,7 @@ pub fn random_schemas(alloc: Global, random: &mut Random) -> Result<Vec<Schema>,
 }
 
 /// A rule of six metavariables with up to eight premises and eight side conditions.
-pub fn random_rule(alloc: Global, random: &mut Random) -> Result<Rule, AllocError> {
+pub fn random_rule(alloc: Global, random: &mut Pcg32) -> Result<Rule, AllocError> {
     let mut params = Items::new(alloc);
     for meta in 0..6 {
         let kind = if meta < 4 { Kind::Var } else { Kind::Const };
@@ -34,11 +35,11 @@ pub fn random_rule(alloc: Global, random: &mut Random) -> Result<Rule, AllocErro
         })?;
     }
     let mut premises = Items::new(alloc);
-    for _ in 0..random.below(9) {
+    for _ in 0..below(random, 9) {
         premises.push(fact(alloc, random)?)?;
     }
     let mut sides = Items::new(alloc);
-    for _ in 0..random.below(9) {
+    for _ in 0..below(random, 9) {
         sides.push(side(random))?;
     }
     let pattern = form(random);
@@ -53,8 +54,8 @@ pub fn random_rule(alloc: Global, random: &mut Random) -> Result<Rule, AllocErro
     })
 }
 
-fn conclusion(alloc: Global, random: &mut Random) -> Result<Conclusion, AllocError> {
-    if random.below(4) == 0 {
+fn conclusion(alloc: Global, random: &mut Pcg32) -> Result<Conclusion, AllocError> {
+    if below(random, 4) == 0 {
         return Ok(Conclusion::Transform(form(random)));
     }
     Ok(Conclusion::Fact {
@@ -63,19 +64,19 @@ fn conclusion(alloc: Global, random: &mut Random) -> Result<Conclusion, AllocErr
     })
 }
 
-fn fact(alloc: Global, random: &mut Random) -> Result<FactUse, AllocError> {
+fn fact(alloc: Global, random: &mut Pcg32) -> Result<FactUse, AllocError> {
     let mut args = Items::new(alloc);
     for _ in 0..4 {
         args.push(RuleBase::Meta(variable(random)))?;
     }
     Ok(FactUse {
-        schema: random.below(3),
+        schema: below(random, 3),
         args,
     })
 }
 
 /// Names say nothing here.
-fn some_name() -> Name {
+pub fn some_name() -> Name {
     match Name::of(b"random") {
         Some(name) => name,
         None => unreachable!(),

@@ -1,10 +1,11 @@
 //! Random parts of rules. Of the six metavariables the first four are variables.
-use crate::random::Random;
+use crate::random::below;
+use rand_pcg::Pcg32;
 use rh_il::Op;
 use rh_rule::{Form, MeaningAtom, MeaningBase, MeaningTerm, RuleBase, Side, SideTerm};
 
-fn op(random: &mut Random) -> Op {
-    match random.below(5) {
+fn op(random: &mut Pcg32) -> Op {
+    match below(random, 5) {
         0 => Op::Add,
         1 => Op::Sub,
         2 => Op::Mul,
@@ -13,26 +14,26 @@ fn op(random: &mut Random) -> Op {
     }
 }
 
-pub fn variable(random: &mut Random) -> u32 {
-    random.below(4)
+pub fn variable(random: &mut Pcg32) -> u32 {
+    below(random, 4)
 }
 
-pub fn base(random: &mut Random) -> RuleBase {
-    match random.below(4) {
-        0 => RuleBase::Num(i64::from(random.below(3))),
-        _ => RuleBase::Meta(random.below(6)),
+pub fn base(random: &mut Pcg32) -> RuleBase {
+    match below(random, 4) {
+        0 => RuleBase::Num(i64::from(below(random, 3))),
+        _ => RuleBase::Meta(below(random, 6)),
     }
 }
 
-fn meaning_base(random: &mut Random) -> MeaningBase {
-    match random.below(5) {
-        0 => MeaningBase::Num(i64::from(random.below(3))),
-        _ => MeaningBase::Param(random.below(4)),
+fn meaning_base(random: &mut Pcg32) -> MeaningBase {
+    match below(random, 5) {
+        0 => MeaningBase::Num(i64::from(below(random, 3))),
+        _ => MeaningBase::Param(below(random, 4)),
     }
 }
 
-fn meaning_term(random: &mut Random) -> MeaningTerm {
-    match random.below(4) {
+fn meaning_term(random: &mut Pcg32) -> MeaningTerm {
+    match below(random, 4) {
         0 => MeaningTerm::Plain(meaning_base(random)),
         1 => MeaningTerm::Address(variable(random)),
         2 => MeaningTerm::Deref(variable(random)),
@@ -40,8 +41,8 @@ fn meaning_term(random: &mut Random) -> MeaningTerm {
     }
 }
 
-pub fn atom(random: &mut Random) -> MeaningAtom {
-    match random.below(6) {
+pub fn atom(random: &mut Pcg32) -> MeaningAtom {
+    match below(random, 6) {
         0 => MeaningAtom::Differ(meaning_term(random), meaning_term(random)),
         1 => MeaningAtom::IsNumber(meaning_term(random)),
         2 => MeaningAtom::IsPointer(meaning_term(random)),
@@ -50,23 +51,23 @@ pub fn atom(random: &mut Random) -> MeaningAtom {
     }
 }
 
-fn side_term(random: &mut Random) -> SideTerm {
-    match random.below(2) {
+fn side_term(random: &mut Pcg32) -> SideTerm {
+    match below(random, 2) {
         0 => SideTerm::Plain(base(random)),
         _ => SideTerm::Compute(op(random), base(random), base(random)),
     }
 }
 
-pub fn side(random: &mut Random) -> Side {
-    match random.below(2) {
+pub fn side(random: &mut Pcg32) -> Side {
+    match below(random, 2) {
         0 => Side::Same(side_term(random), side_term(random)),
         _ => Side::Differ(side_term(random), side_term(random)),
     }
 }
 
-pub fn form(random: &mut Random) -> Form {
+pub fn form(random: &mut Pcg32) -> Form {
     let to = variable(random);
-    match random.below(11) {
+    match below(random, 11) {
         0 => Form::Entry(to),
         1 => Form::Skip,
         2 => Form::AnyAssign { to },
