@@ -160,7 +160,7 @@ fn repeated(
 fn limits(rt: HostRuntime) -> Result<(), Fail> {
     let cases: [(&[u8], &[u8], &[u8], u32, &[u8], Limited); 3] = [
         (
-            b"main(a) var a",
+            b"main(a) var b",
             b", a",
             b"",
             62,
