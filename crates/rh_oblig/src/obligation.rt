@@ -54,11 +54,7 @@ impl<T: Drop> From<AllocFailed<T>> for ObligFault {
 }
 
 /// What has to be shown of a rule of a file: its obligations in their order.
-pub fn obligations(
-    alloc: Global,
-    file: &RuleFile,
-    rule: u32,
-) -> Result<Vec<Obligation>, ObligFault>
+pub fn obligations(alloc: Global, file: &RuleFile, rule: u32) -> Result<Vec<Obligation>, ObligFault>
     requires { rule < length file.now.rules }
     ensures made { IfOk result (λ made. OfRule file.now rule (λ schemas described. parts_of made.items ≡ obligations_of schemas described)) }
     ensures few { IfOk result (λ made. length made.items < 2 ^ 32) }

@@ -1,3 +1,4 @@
 pub mod Choosing
 pub mod Searching
 pub mod Weight
+pub mod Fixed

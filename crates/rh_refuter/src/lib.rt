@@ -2,8 +2,8 @@
 #![tactic(auto)]
 
 mod choice;
+mod laws;
 mod search;
-#[cfg(test)]
-mod tests;
 
-pub use search::{Verdict, is_small, refute};
+pub use laws::one_verdict;
+pub use search::{Verdict, refute};

@@ -1,5 +1,5 @@
 //! The search.
-ghost use Rattle.std.specs.Prelude.{◌≡◌, ◌<◌, ◌^◌, length, IfOk, IsTrue};
+ghost use Rattle.std.specs.Prelude.{◌≡◌, ◌<◌, ◌^◌, length, IfOk};
 ghost use Rattle.rh_log.specs.Tree.{width};
 ghost use Rattle.rh_refuter.specs.Choice.{AreNarrow, IsChosen, IsFound, IsDecided, Steps};
 
@@ -71,24 +71,4 @@ fn node(number: u32, clause: &Clause) -> LogNode
         clause: number,
         children: width(clause) as u32,
     }
-}
-
-/// Whether the obligation is as small as `refute` asks.
-pub fn is_small(obligation: &Obligation) -> bool
-    ensures few { IsTrue result → length obligation.now.clauses < 2 ^ 32 }
-    ensures narrow { IsTrue result → AreNarrow obligation.now.clauses }
-{
-    let clauses = obligation.clauses.as_slice();
-    clauses.len() <= u32::MAX as usize && are_narrow(clauses)
-}
-
-fn are_narrow(clauses: &[Clause]) -> bool
-    ensures { IsTrue result → AreNarrow clauses.now }
-{
-    for clause in clauses {
-        if clause.lits.len() > u32::MAX as usize {
-            return false;
-        }
-    }
-    true
 }
