@@ -1,6 +1,6 @@
 //! A system in layers.
 ghost use Rattle.std.specs.Prelude.{◌≡◌, ◌↔◌, ◌*◌, ◌<◌, ◌^◌, IsSome, IfSome};
-ghost use Rattle.rh_solver_bench.specs.LayerRows.{begins};
+ghost use Rattle.rh_bench.specs.LayerRows.{begins};
 
 use rh_system::{System, has};
 
@@ -40,8 +40,8 @@ impl Layers {
 
 impl System for Layers {
     ghost use Rattle.std.specs.Prelude.{◌*◌, ◌^◌, ◌-◌, replicate};
-    ghost use Rattle.rh_solver_bench.specs.LayerRows.{layer_rows};
-    ghost use Rattle.rh_solver_bench.specs.Covered.{covered_layers};
+    ghost use Rattle.rh_bench.specs.LayerRows.{layer_rows};
+    ghost use Rattle.rh_bench.specs.Covered.{covered_layers};
 
     ghost full_words = { λ s. replicate (s.width * s.depth) (2 ^ 64 - 1) };
 

@@ -10,7 +10,7 @@ use Rattle.rh_system.specs.Bits.{bits_in}
 use Rattle.rh_system.specs.Rows.{IsCovered}
 use Rattle.rh_system.specs.Covered.{covered_by_all}
 use Rattle.rh_system.proofs.Supports.{and_both, test_from_set}
-use Rattle.rh_solver_bench.specs.LayerRows.{rows_below, layer_rows}
+use Rattle.rh_bench.specs.LayerRows.{rows_below, layer_rows}
 
 pub is_full : (words bit : ℕ) → bit < 64 * words → IsTrue (bits_in (replicate words (2 ^ 64 - 1)) bit)
 unfolding bits_in

@@ -8,7 +8,7 @@ use Rattle.std.proofs.lemmas.List.{length-replicate}
 use Rattle.rh_system.specs.declared.system.Row.{Row}
 use Rattle.rh_system.specs.Bits.{BitSet}
 use Rattle.rh_system.specs.Rows.{supports}
-use Rattle.rh_solver_bench.specs.LayerRows.{begins, premises_of, rows_below, layer_rows}
+use Rattle.rh_bench.specs.LayerRows.{begins, premises_of, rows_below, layer_rows}
 
 or_false : (a : Bool) → (a || false) ≡ a
 or_false true = refl
