@@ -1,10 +1,10 @@
 #!/bin/sh
-# Builds the benchmark of the solver, and times one thread and 1, 2 and 4 workers on systems in
-# layers of about 100,000 and of 5,000,000 bits. It is no part of the gate.
+# Times one thread and 1, 2 and 4 workers on systems in layers of about 100,000 and of 5,000,000 bits.
+# It is no part of the gate.
 set -eu
-cd "$(dirname "$0")/../crates/rh_solver_bench"
+cd "$(dirname "$0")/../crates/rh_bench"
 for size in "24 65" "25 3125"; do
     set -- $size
     echo "$1 layers of $2 words, $((64 * $1 * $2)) bits"
-    rt run -- "$1" "$2" time
+    rt run -- solver "$1" "$2"
 done

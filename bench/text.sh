@@ -1,11 +1,49 @@
 #!/bin/sh
-# Builds the benchmark of the readers, and times them on a program and on a rule file of 128 KiB to
-# 1 MiB, with the ratio of each time to the one before it. It is no part of the gate.
+# Times the readers on a program and on a rule file of 128 KiB to 1 MiB, the shortest of five readings,
+# with the ratio of each time to the one before it. It is no part of the gate.
 set -eu
-cd "$(dirname "$0")/../crates/rh_text_bench"
+top=$(dirname "$(dirname "$(readlink -f "$0")")")
+room=$(mktemp -d)
+trap 'rm -rf "$room"' EXIT
+cd "$top/crates/rh_bench"
+
+# A program of 251 procedures, and spaces up to so many bytes.
+program() {
+    awk -v bytes="$1" 'BEGIN {
+        n = int((int(bytes / 251) - 64) / 20)
+        for (p = 0; p < 250; p++) {
+            printf "p%d(a) var b, c {\n", p
+            for (i = 0; i < n; i++) printf "  b := c + 1234;\n"
+            printf "  return b;\n}\n"
+        }
+        printf "main(a) {\n  return a;\n}\n"
+    }'
+}
+
+# As many facts, and rules that use them, as fit: more than there may be, so it is read up to its checks.
+rules() {
+    awk -v bytes="$1" 'BEGIN {
+        n = int(bytes / 160)
+        for (i = 0; i < n; i++) printf "fact f%d(var X, const C) means X == C;\n", i
+        for (i = 0; i < n; i++)
+            printf "rule r%d(var X, var A, const C) { X := A + 1 when f%d(A, C) @ in => transform X := C + 1 }\n", i, i
+    }'
+}
+
+# The shortest time in microseconds of five readings of a file.
+shortest() {
+    for _ in 1 2 3 4 5; do rt run -- "$1" "$2" 2>&1 >/dev/null; done |
+        awk '/ us to read/ { if (!best || $1 < best) best = $1 } END { print best }'
+}
+
 for kib in 128 256 512 1024; do
-    rt run -- $((kib * 1024)) time | awk -v kib="$kib" '/ us and / { print kib, $1, $4 }'
+    for kind in program rules; do
+        "$kind" $((kib * 1024)) >"$room/text"
+        lacking=$((kib * 1024 - $(wc -c <"$room/text")))
+        printf "%${lacking}s" '' >>"$room/text"
+        echo "$kib $kind $(shortest "$kind" "$room/text")"
+    done
 done | awk '
-    { printf "%5d KiB: program %8.3f s, rule file %8.3f s", $1, $2 / 1e6, $3 / 1e6 }
-    NR > 1 { printf "; ratios %.2f and %.2f", $2 / program, $3 / rules }
-    { printf "\n"; program = $2; rules = $3 }'
+    { printf "%5d KiB %-8s %8.3f ms", $1, $2, $3 / 1e3 }
+    $2 in before { printf "; ratio %.2f", $3 / before[$2] }
+    { printf "\n"; before[$2] = $3 }'
