@@ -1,4 +1,4 @@
-//! Rules on random rules, and prints how hard their obligations were. The words of the command line
+//! Rules on random rules that pass the checks, and prints how hard their obligations were. The words of the command line
 //! are the seed and how many rules are made, and after these `time`, where the microseconds are to be
 //! printed too.
 #![tactic(auto)]
@@ -8,13 +8,12 @@ mod random;
 mod rules;
 mod shapes;
 
-use hard::hard_obligation;
+use hard::{hard_obligation, is_small};
 use random::Random;
-use rh_admit::admit_rule;
+use rh_admit::{AdmitFault, admit};
 use rh_log::Admission;
-use rh_oblig::ObligFault;
-use rh_refuter::{Verdict, is_small, refute};
-use rh_rule::{Rule, Schema};
+use rh_refuter::{Verdict, refute};
+use rh_rule::{Rule, RuleFile, Schema, are_proper};
 use rules::{random_rule, random_schemas};
 use std::alloc::{AllocError, Global};
 use std::time::Instant;
@@ -49,32 +48,44 @@ fn read_words(words: env::Args) -> Request {
     request
 }
 
-/// What came of a rule: its nodes, where it is admitted.
+/// What came of a rule: its most nodes, where it is admitted.
 enum Outcome {
     Admitted(usize),
     Refused,
     TooManyTerms,
+    NoRuleFile,
     NoMemory,
 }
 
-fn rule_on(alloc: Global, schemas: &[Schema], rule: &Rule) -> Outcome {
-    if rule.params.len() > 6 {
-        return Outcome::NoMemory;
+fn rule_on(alloc: Global, schemas: Vec<Schema>, rules: Vec<Rule>) -> Outcome {
+    if !are_proper(schemas.as_slice(), rules.as_slice()) {
+        return Outcome::NoRuleFile;
     }
-    match admit_rule(alloc, schemas, rule) {
-        Ok(Admission::Admitted(logs)) => {
-            let mut most = 0;
-            for log in logs.as_slice() {
-                if log.nodes.len() > most {
-                    most = log.nodes.len();
+    let Ok(file) = RuleFile::new(schemas, rules) else {
+        return Outcome::NoRuleFile;
+    };
+    match admit(alloc, &file) {
+        Ok(admissions) => outcome_of(admissions.as_slice()),
+        Err(AdmitFault::TooManyTerms { .. }) => Outcome::TooManyTerms,
+        Err(AdmitFault::NoMemory) => Outcome::NoMemory,
+    }
+}
+
+fn outcome_of(admissions: &[Admission]) -> Outcome {
+    let mut most = 0;
+    for admission in admissions {
+        match admission {
+            Admission::Admitted(logs) => {
+                for log in logs.as_slice() {
+                    if log.nodes.len() > most {
+                        most = log.nodes.len();
+                    }
                 }
             }
-            Outcome::Admitted(most)
+            Admission::Refused { .. } => return Outcome::Refused,
         }
-        Ok(Admission::Refused { .. }) => Outcome::Refused,
-        Err(ObligFault::TooManyTerms(_)) => Outcome::TooManyTerms,
-        Err(ObligFault::NoMemory) => Outcome::NoMemory,
     }
+    Outcome::Admitted(most)
 }
 
 /// The counts of what came of the rules.
@@ -97,7 +108,7 @@ impl Counts {
             }
             Outcome::Refused => self.refused = self.refused.saturating_add(1),
             Outcome::TooManyTerms => self.large = self.large.saturating_add(1),
-            Outcome::NoMemory => {}
+            Outcome::NoRuleFile | Outcome::NoMemory => {}
         }
     }
 }
@@ -133,9 +144,9 @@ fn main(rt: HostRuntime) -> io::Result<()> {
     let start = Instant::now(&rt)?;
     for number in 0..request.rules {
         let schemas = random_schemas(rt.alloc(), &mut random)?;
-        let rule = random_rule(rt.alloc(), &mut random)?;
+        let rules = vec![in rt.alloc(); random_rule(rt.alloc(), &mut random)?]?;
         let before = Instant::now(&rt)?;
-        counts.add(rule_on(rt.alloc(), schemas.as_slice(), &rule));
+        counts.add(rule_on(rt.alloc(), schemas, rules));
         let taken = before.elapsed(&rt)?.as_micros();
         if taken > longest {
             longest = taken;

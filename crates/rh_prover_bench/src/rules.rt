@@ -1,22 +1,22 @@
 //! Random rules.
 use crate::random::Random;
-use crate::shapes::{atom, base, form, side, variable};
+use crate::shapes::{atom, form, side, variable};
 use rh_il::{Name, Slot};
 use rh_list::Items;
-use rh_rule::{Conclusion, FactUse, Kind, Param, Rule, RuleBase, Schema};
+use rh_rule::{Conclusion, FactUse, Form, Kind, Param, Rule, RuleBase, Schema, Side, SideTerm};
 use std::alloc::{AllocError, AllocFailed, Global};
 
 /// Three schemas of four parameters, with four atoms each.
 pub fn random_schemas(alloc: Global, random: &mut Random) -> Result<Vec<Schema>, AllocError> {
     let mut schemas = Vec::new(alloc);
-    for _ in 0..3 {
+    for number in 0..3 {
         let mut meaning = Items::new(alloc);
         for _ in 0..4 {
             meaning.push(atom(random))?;
         }
         schemas.push(Schema {
-            name: some_name(),
-            params: Items::new(alloc),
+            name: numbered(b'f', number)?,
+            params: params(alloc, 4, 4)?,
             meaning,
         })?;
     }
@@ -25,27 +25,21 @@ pub fn random_schemas(alloc: Global, random: &mut Random) -> Result<Vec<Schema>,
 
 /// A rule of six metavariables with up to eight premises and eight side conditions.
 pub fn random_rule(alloc: Global, random: &mut Random) -> Result<Rule, AllocError> {
-    let mut params = Items::new(alloc);
-    for meta in 0..6 {
-        let kind = if meta < 4 { Kind::Var } else { Kind::Const };
-        params.push(Param {
-            name: some_name(),
-            kind,
-        })?;
-    }
+    let pattern = form(random);
     let mut premises = Items::new(alloc);
-    for _ in 0..random.below(9) {
-        premises.push(fact(alloc, random)?)?;
+    if !matches!(pattern, Form::Entry(_)) {
+        for _ in 0..random.below(9) {
+            premises.push(fact(alloc, random)?)?;
+        }
     }
-    let mut sides = Items::new(alloc);
-    for _ in 0..random.below(9) {
+    let mut sides = sides_over_all(alloc)?;
+    for _ in 0..random.below(6) {
         sides.push(side(random))?;
     }
-    let pattern = form(random);
-    let conclusion = conclusion(alloc, random)?;
+    let conclusion = conclusion(alloc, pattern, random)?;
     Ok(Rule {
-        name: some_name(),
-        params,
+        name: numbered(b'r', 0)?,
+        params: params(alloc, 6, 4)?,
         pattern,
         premises,
         sides,
@@ -53,13 +47,16 @@ pub fn random_rule(alloc: Global, random: &mut Random) -> Result<Rule, AllocErro
     })
 }
 
-fn conclusion(alloc: Global, random: &mut Random) -> Result<Conclusion, AllocError> {
+fn conclusion(alloc: Global, pattern: Form, random: &mut Random) -> Result<Conclusion, AllocError> {
     if random.below(4) == 0 {
         return Ok(Conclusion::Transform(form(random)));
     }
     Ok(Conclusion::Fact {
         fact: fact(alloc, random)?,
-        slot: Slot::Out,
+        slot: match pattern {
+            Form::If(_) => Slot::Then,
+            _ => Slot::Out,
+        },
     })
 }
 
@@ -74,10 +71,37 @@ fn fact(alloc: Global, random: &mut Random) -> Result<FactUse, AllocError> {
     })
 }
 
-/// Names say nothing here.
-fn some_name() -> Name {
-    match Name::of(b"random") {
-        Some(name) => name,
-        None => unreachable!(),
+/// As many parameters, the first of them variables.
+fn params(alloc: Global, count: u32, variables: u32) -> Result<Items<Param>, AllocError> {
+    let mut params = Items::new(alloc);
+    for number in 0..count {
+        let kind = if number < variables {
+            Kind::Var
+        } else {
+            Kind::Const
+        };
+        params.push(Param {
+            name: numbered(b'P', number)?,
+            kind,
+        })?;
     }
+    Ok(params)
+}
+
+/// Side conditions that name each of the six metavariables, as a rule has to.
+fn sides_over_all(alloc: Global) -> Result<Items<Side>, AllocError> {
+    let mut sides = Items::new(alloc);
+    sides.push(Side::Differ(meta(0), meta(1)))?;
+    sides.push(Side::Differ(meta(2), meta(3)))?;
+    sides.push(Side::Differ(meta(4), meta(5)))?;
+    Ok(sides)
+}
+
+fn meta(number: u32) -> SideTerm {
+    SideTerm::Plain(RuleBase::Meta(number))
+}
+
+/// A letter and a digit. Each such text is a name.
+fn numbered(letter: u8, number: u32) -> Result<Name, AllocError> {
+    Name::of(&[letter, b'0' + (number % 10) as u8]).ok_or(AllocError)
 }

@@ -50,16 +50,29 @@ pub fn atom(random: &mut Random) -> MeaningAtom {
     }
 }
 
-fn side_term(random: &mut Random) -> SideTerm {
-    match random.below(2) {
-        0 => SideTerm::Plain(base(random)),
-        _ => SideTerm::Compute(op(random), base(random), base(random)),
+/// A number, or a metavariable for one.
+fn constant(random: &mut Random) -> RuleBase {
+    match random.below(3) {
+        0 => RuleBase::Num(i64::from(random.below(3))),
+        _ => RuleBase::Meta(4 + random.below(2)),
     }
 }
 
-pub fn side(random: &mut Random) -> Side {
+fn side_term(random: &mut Random) -> SideTerm {
     match random.below(2) {
-        0 => Side::Same(side_term(random), side_term(random)),
+        0 => SideTerm::Plain(constant(random)),
+        _ => SideTerm::Compute(op(random), constant(random), constant(random)),
+    }
+}
+
+/// A condition that two variables differ, or one on numbers.
+pub fn side(random: &mut Random) -> Side {
+    match random.below(4) {
+        0 | 1 => Side::Differ(
+            SideTerm::Plain(RuleBase::Meta(variable(random))),
+            SideTerm::Plain(RuleBase::Meta(variable(random))),
+        ),
+        2 => Side::Same(side_term(random), side_term(random)),
         _ => Side::Differ(side_term(random), side_term(random)),
     }
 }
