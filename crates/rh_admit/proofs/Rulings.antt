@@ -1,6 +1,6 @@
 -- From the decision on the obligations of a rule to its ruling.
 use Rattle.std.proofs.Common.{◌≡◌, ℕ, zero, suc, ◌<◌, List, [], ◌∷◌, map, take, Some, refl, sym, subst, arith}
-use Rattle.std.specs.Prelude.{slice_get}
+use Rattle.std.specs.Prelude.{IfSome, None, Option, slice_get}
 use Rattle.std.specs.List.{AllByRecursion}
 use Rattle.std.proofs.lemmas.List.Elements.{All-from_recursion}
 use Rattle.std.proofs.lemmas.Option.{none-some, same_Some}
@@ -12,10 +12,12 @@ use Rattle.rh_rule.specs.declared.schema.Schema.{Schema}
 use Rattle.rh_term.specs.Partition.{IsOpen}
 use Rattle.rh_oblig.specs.Goals.{goals}
 use Rattle.rh_oblig.specs.Literal.{TreeLit}
-use Rattle.rh_oblig.specs.Obligation.{IsShown, obligations_of}
+use Rattle.rh_oblig.specs.Obligation.{IsShown, excess, obligations_of}
 use Rattle.rh_oblig.specs.Ruling.{IsRuling}
 use Rattle.rh_oblig.proofs.Each.{part_for}
-use Rattle.rh_admit.specs.Admission.{IsDecision, IsShut, Part}
+use Rattle.rh_rule.specs.RuleFiles.{OfRule, Rules}
+use Rattle.rh_admit.specs.Admission.{IsDecision, IsKept, IsShut, Part}
+use Rattle.rh_admit.specs.Rules.{IsTold}
 
 module _ (schemas : List Schema) (rule : Rule) where
   abbrev parts : List TreeLit → List Part
@@ -47,3 +49,18 @@ module _ (schemas : List Schema) (rule : Rule) where
         is_open = (classes, subst (λ (part : Part). IsOpen part.0 part.1 classes) (sym found.2) decided.2);
         first = λ earlier before below e. shown_before (goals schemas rule) obligation earlier before decided.3 below e;
       }
+
+-- what is told of a rule, where its obligations are decided
+told_found : (schemas : List Schema) (found : Option Rule) (parts : List Part) (admission : Admission) → IfSome found (λ rule. parts ≡ obligations_of schemas rule)
+    → IfSome found (λ rule. excess schemas rule ≡ None) → IsKept parts admission → IsDecision parts admission → IfSome found (λ rule. IsTold schemas rule admission)
+told_found schemas None parts admission made small kept decided = tt
+told_found schemas (Some rule) parts admission made small kept decided = record {
+  ruled = ruled schemas rule admission (subst (λ (all : List Part). IsDecision all admission) made decided);
+  kept = subst (λ (all : List Part). IsKept all admission) made kept;
+  small = small;
+}
+
+pub told_of : (file : Rules) (number : ℕ) (parts : List Part) (admission : Admission) → OfRule file number (λ schemas rule. parts ≡ obligations_of schemas rule)
+    → OfRule file number (λ schemas rule. excess schemas rule ≡ None) → IsKept parts admission → IsDecision parts admission
+    → OfRule file number (λ schemas rule. IsTold schemas rule admission)
+told_of file number parts admission made small kept decided = told_found file.schemas (slice_get file.rules number) parts admission made small kept decided

@@ -1,8 +1,7 @@
 -- What is told after some of the rules.
-use Rattle.std.proofs.Common.{◌≡◌, ℕ, zero, suc, ◌<◌, ◌+◌, List, [], ◌∷◌, ◌++◌, take, length, get_or, Bool, true, false, Result, Ok, Err, Some, None, true≢false, arith, refl, ap, sym, subst, ◌∙◌}
-use Rattle.std.specs.Prelude.{slice_get}
+use Rattle.std.proofs.Common.{◌≡◌, ℕ, zero, suc, ◌<◌, ◌≤◌, ◌+◌, List, [], ◌∷◌, ◌++◌, take, length, add-one, Option, Bool, true, false, Result, Ok, Err, Some, None, true≢false, arith, refl, ap, sym, subst, ◌∙◌}
+use Rattle.std.specs.Prelude.{IfSome, slice_get}
 use Rattle.std.specs.List.{AllZip}
-use Rattle.std.proofs.lemmas.List.{take_more}
 use Rattle.std.proofs.lemmas.Option.{none-some, same_Some}
 use Rattle.rh_log.specs.declared.log.Admission.{Admission}
 use Rattle.rh_oblig.specs.declared.obligation.ObligFault.{ObligFault}
@@ -11,26 +10,28 @@ use Rattle.rh_rule.specs.declared.rule.Rule.{Rule}
 use Rattle.rh_rule.specs.declared.schema.Schema.{Schema}
 use Rattle.rh_admit.specs.declared.all.AdmitFault.{AdmitFault}
 use Rattle.rh_admit.specs.declared.all.AdmitFault.TheVariants.{TooManyTerms, NoMemory}
-use Rattle.rh_admit.specs.Rules.{IsFirstExcess, IsTold, excess, fault_of}
+use Rattle.rh_oblig.specs.Obligation.{excess}
+use Rattle.rh_admit.specs.Rules.{IsFirstExcess, IsTold, fault_of}
+
+slice_get_none : (rules : List Rule) (i : ℕ) → slice_get rules i ≡ None → length rules ≤ i
+slice_get_none [] i none = omega arith
+slice_get_none (rule ∷ rules) zero none = cc
+slice_get_none (rule ∷ rules) (suc i) none = omega (arith, slice_get_none rules i none)
 
 module _ (schemas : List Schema) where
-  zip_more : (rules : List Rule) (made : List Admission) (rule : Rule) (admission : Admission) → AllZip (IsTold schemas) rules made → IsTold schemas rule admission
-      → AllZip (IsTold schemas) (rules ++ rule ∷ []) (made ++ admission ∷ [])
-  zip_more [] [] rule admission all this = (this, tt)
-  zip_more [] (first ∷ made) rule admission all this = absurd all
-  zip_more (first ∷ rules) [] rule admission all this = absurd all
-  zip_more (first ∷ rules) (one ∷ made) rule admission all this = (all.0, zip_more rules made rule admission all.1 this)
+  -- one rule more
+  told_next : (rules : List Rule) (i : ℕ) (made : List Admission) (admission : Admission) → i < length rules → AllZip (IsTold schemas) (take i rules) made
+      → IfSome (slice_get rules i) (λ rule. IsTold schemas rule admission) → AllZip (IsTold schemas) (take (suc i) rules) (made ++ admission ∷ [])
+  told_next [] i made admission within all this = absurd (omega (arith, within))
+  told_next (rule ∷ rules) zero [] admission within all this = (this, tt)
+  told_next (rule ∷ rules) zero (one ∷ made) admission within all this = absurd all
+  told_next (rule ∷ rules) (suc i) [] admission within all this = absurd all
+  told_next (rule ∷ rules) (suc i) (one ∷ made) admission within all this = (all.0, told_next rules i made admission (omega (arith, within)) all.1 this)
 
-  pub told_more : (rules : List Rule) (i : ℕ) (rule : Rule) (made : List Admission) (admission : Admission) → i < length rules → rule ≡ get_or rules i rule
-      → AllZip (IsTold schemas) (take i rules) made → IsTold schemas rule admission → AllZip (IsTold schemas) (take (i + 1) rules) (made ++ admission ∷ [])
-  told_more rules i rule made admission within here all this =
-      subst (λ (front : List Rule). AllZip (IsTold schemas) front (made ++ admission ∷ [])) (sym (take_more rules i rule within))
-      (zip_more (take i rules) made (get_or rules i rule) admission all (subst (λ (rule : Rule). IsTold schemas rule admission) here this))
-
-  pub rule_at : (rules : List Rule) (i : ℕ) (d : Rule) → i < length rules → slice_get rules i ≡ Some (get_or rules i d)
-  rule_at [] i d within = absurd (omega (arith, within))
-  rule_at (first ∷ rules) zero d within = refl
-  rule_at (first ∷ rules) (suc i) d within = rule_at rules i d (omega (arith, within))
+  pub told_more : (rules : List Rule) (i : ℕ) (made : List Admission) (admission : Admission) → i < length rules → AllZip (IsTold schemas) (take i rules) made
+      → IfSome (slice_get rules i) (λ rule. IsTold schemas rule admission) → AllZip (IsTold schemas) (take (i + 1) rules) (made ++ admission ∷ [])
+  told_more rules i made admission within all this =
+      subst (λ (n : ℕ). AllZip (IsTold schemas) (take n rules) (made ++ admission ∷ [])) (sym (add-one i)) (told_next rules i made admission within all this)
 
   small_before : (rules : List Rule) (i : ℕ) (made : List Admission) → AllZip (IsTold schemas) (take i rules) made → (earlier : ℕ) (before : Rule) → earlier < i
       → slice_get rules earlier ≡ Some before → excess schemas before ≡ None
@@ -41,14 +42,13 @@ module _ (schemas : List Schema) where
       ap (excess schemas) (sym (same_Some first before e)) ∙ all.0.small
   small_before (first ∷ rules) (suc i) (one ∷ made) all (suc earlier) before below e = small_before rules i made all.1 earlier before (omega (arith, below)) e
 
-  pub first_excess_at : (rules : List Rule) (i : ℕ) (rule : Rule) (made : List Admission) (count : ℕ) → i < length rules → rule ≡ get_or rules i rule → AllZip (IsTold schemas) (take i rules) made
-      → excess schemas rule ≡ Some count → IsFirstExcess schemas rules i count
-  first_excess_at rules i rule made count within here all large = record {
-    rule = rule;
-    stands = rule_at rules i rule within ∙ ap (λ (at : Rule). Some at) (sym here);
-    large = large;
-    first = small_before rules i made all;
-  }
+  pub first_excess_at : (rules : List Rule) (i : ℕ) (made : List Admission) (count : ℕ) → i < length rules → AllZip (IsTold schemas) (take i rules) made
+      → IfSome (slice_get rules i) (λ rule. excess schemas rule ≡ Some count) → IsFirstExcess schemas rules i count
+  first_excess_at rules i made count within all large = at (slice_get rules i) refl large
+    where
+      at : (found : Option Rule) → slice_get rules i ≡ found → IfSome found (λ rule. excess schemas rule ≡ Some count) → IsFirstExcess schemas rules i count
+      at None stands large = let past = slice_get_none rules i stands in absurd (omega (arith, within, past))
+      at (Some rule) stands large = record { rule = rule; stands = stands; large = large; first = small_before rules i made all }
 
 -- a fault tells the number of its rule
 pub record Tells (number rule count : ℕ) (fault : ObligFault) : Type 0 where

@@ -1,6 +1,6 @@
 //! The rulings on all rules of a file.
-ghost use Rattle.std.specs.Prelude.{◌≡◌, ◌<◌, ◌^◌, ℕ, Err, IfOk, length};
-ghost use Rattle.std.specs.List.{All, AllZip};
+ghost use Rattle.std.specs.Prelude.{◌≡◌, ℕ, Err, IfOk, length};
+ghost use Rattle.std.specs.List.{AllZip};
 ghost use Rattle.rh_admit.specs.Rules.{IsFirstExcess, IsTold};
 ghost use Rattle.rh_admit.specs.declared.all.AdmitFault.{AdmitFault};
 ghost use Rattle.rh_oblig.specs.declared.obligation.ObligFault.{ObligFault};
@@ -9,7 +9,7 @@ ghost use Rattle.rh_admit.specs.Rules.{fault_of};
 use crate::one::admit_rule;
 use rh_log::Admission;
 use rh_oblig::ObligFault;
-use rh_rule::{Rule, RuleFile, Schema};
+use rh_rule::RuleFile;
 use std::alloc::{AllocError, AllocFailed, Global};
 use thiserror::Error;
 
@@ -51,29 +51,22 @@ pub fn admit(alloc: Global, file: &RuleFile) -> Result<Vec<Admission>, AdmitFaul
     ensures too_many { (rule count : ℕ) → result ≡ Err (AdmitFault.TooManyTerms rule count)
         → IsFirstExcess file.now.schemas file.now.rules rule count }
 {
-    admit_each(alloc, file.schemas(), file.rules())
-}
-
-/// Rules on each of the rules over these schemas.
-fn admit_each(
-    alloc: Global,
-    schemas: &[Schema],
-    rules: &[Rule],
-) -> Result<Vec<Admission>, AdmitFault>
-    requires few { length rules.now < 2 ^ 32 }
-    requires params { All (λ rule. length rule.params < 2 ^ 32) rules.now }
-    ensures told { IfOk result (λ made. AllZip (IsTold schemas.now) rules.now made.items) }
-    ensures too_many { (rule count : ℕ) → result ≡ Err (AdmitFault.TooManyTerms rule count)
-        → IsFirstExcess schemas.now rules.now rule count }
-{
-    let mut made = Vec::with_capacity(alloc, rules.len())?;
-    for (number, rule) in rules.iter().enumerate() {
-        match admit_rule(alloc, schemas, rule) {
+    let count = rule_count(file);
+    let mut made = Vec::with_capacity(alloc, count as usize)?;
+    for number in 0..count {
+        match admit_rule(alloc, file, number) {
             Ok(admission) => made.push(admission)?,
-            Err(fault) => return Err(fault_of(number as u32, fault)),
+            Err(fault) => return Err(fault_of(number, fault)),
         }
     }
     Ok(made)
+}
+
+/// How many rules the file has.
+fn rule_count(file: &RuleFile) -> u32
+    ensures { result ≡ length file.now.rules }
+{
+    file.rules().len() as u32
 }
 
 /// The fault of a rule, with its number.

@@ -2,9 +2,9 @@
 #![tactic(auto)]
 
 mod all;
+mod laws;
 mod one;
-#[cfg(test)]
-mod tests;
 
 pub use all::{AdmitFault, admit};
+pub use laws::one_list_is_told;
 pub use one::admit_rule;

@@ -1,5 +1,6 @@
 //! An obligation made to be hard.
-ghost use Rattle.std.specs.Prelude.{◌≤◌};
+ghost use Rattle.std.specs.Prelude.{◌≤◌, ◌<◌, ◌^◌, IsTrue, length};
+ghost use Rattle.rh_refuter.specs.Choice.{AreNarrow};
 
 use rh_il::Op;
 use rh_list::Items;
@@ -89,4 +90,24 @@ fn add_address(terms: &mut Terms, number: u32) -> Result<(), AllocError> {
         let _place = terms.add(Term::Addr(number))?;
     }
     Ok(())
+}
+
+/// Whether the obligation is as small as the search asks.
+pub fn is_small(obligation: &Obligation) -> bool
+    ensures few { IsTrue result → length obligation.now.clauses < 2 ^ 32 }
+    ensures narrow { IsTrue result → AreNarrow obligation.now.clauses }
+{
+    let clauses = obligation.clauses.as_slice();
+    clauses.len() <= u32::MAX as usize && are_narrow(clauses)
+}
+
+fn are_narrow(clauses: &[Clause]) -> bool
+    ensures { IsTrue result → AreNarrow clauses.now }
+{
+    for clause in clauses {
+        if clause.lits.len() > u32::MAX as usize {
+            return false;
+        }
+    }
+    true
 }

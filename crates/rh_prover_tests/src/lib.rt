@@ -5,8 +5,6 @@
 #[cfg(test)]
 mod log_texts;
 #[cfg(test)]
-mod obligations_made;
-#[cfg(test)]
 mod rule_files;
 #[cfg(test)]
-mod schema_instances;
+mod rulings;

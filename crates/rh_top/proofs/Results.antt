@@ -32,7 +32,8 @@ use Rattle.rh_rule.specs.declared.schema.Kind.TheVariants.{Var, Const}
 use Rattle.rh_rule.specs.declared.schema.Param.{Param}
 use Rattle.rh_rule.specs.declared.schema.Schema.{Schema}
 use Rattle.rh_rule.specs.Kinds.{is_var_kind}
-use Rattle.rh_rule.specs.RuleFiles.{Rules, IsRuleFile}
+use Rattle.rh_rule.specs.RuleFiles.{Rules, IsRuleFile, IsRuleOf}
+use Rattle.rh_rule.proofs.Passed.{rule_of}
 use Rattle.rh_ground.specs.Search.{AreVars}
 use Rattle.rh_transform.specs.Bare.{IsBare}
 use Rattle.rh_transform.proofs.FromFiles.{bare_rules}
@@ -55,18 +56,19 @@ as_many schemas [] (a ∷ admissions) told = absurd told
 as_many schemas (rule ∷ rules) [] told = absurd told
 as_many schemas (rule ∷ rules) (a ∷ admissions) told = ap suc (as_many schemas rules admissions told.1)
 
-sound_one : (schemas : List Schema) (rule : Rule) (admission : Admission) → IsTold schemas rule admission → ruling_of admission ≡ Admitted → IsSound schemas rule
-sound_one schemas rule admission told is = admitted_are_sound schemas rule told.lists (subst (IsRuling schemas rule) is told.ruled)
+sound_one : (schemas : List Schema) (rule : Rule) (admission : Admission) → IsRuleOf schemas rule → IsTold schemas rule admission → ruling_of admission ≡ Admitted → IsSound schemas rule
+sound_one schemas rule admission of told is = admitted_are_sound schemas rule of (subst (IsRuling schemas rule) is told.ruled)
 
-sound_by : (schemas : List Schema) (rules : List Rule) (admissions : List Admission) → AllZip (IsTold schemas) rules admissions → AreSound schemas rules (map ruling_of admissions)
-sound_by schemas [] [] told number rule read admitted = cc
-sound_by schemas [] (a ∷ admissions) told number rule read admitted = absurd told
-sound_by schemas (r ∷ rules) [] told number rule read admitted = absurd told
-sound_by schemas (r ∷ rules) (a ∷ admissions) told zero rule read admitted =
+sound_by : (schemas : List Schema) (rules : List Rule) (admissions : List Admission) → Each (IsRuleOf schemas) rules → AllZip (IsTold schemas) rules admissions → AreSound schemas rules (map ruling_of admissions)
+sound_by schemas [] [] each told number rule read admitted = cc
+sound_by schemas [] (a ∷ admissions) each told number rule read admitted = absurd told
+sound_by schemas (r ∷ rules) [] each told number rule read admitted = absurd told
+sound_by schemas (r ∷ rules) (a ∷ admissions) each told zero rule read admitted =
     let same : r ≡ rule = cc in
     let is : ruling_of a ≡ Admitted = cc in
-    subst (IsSound schemas) same (sound_one schemas r a told.0 is)
-sound_by schemas (r ∷ rules) (a ∷ admissions) told (suc number) rule read admitted = sound_by schemas rules admissions told.1 number rule read admitted
+    subst (IsSound schemas) same (sound_one schemas r a (each 0 r refl) told.0 is)
+sound_by schemas (r ∷ rules) (a ∷ admissions) each told (suc number) rule read admitted =
+    sound_by schemas rules admissions (λ place other stands. each (suc place) other stands) told.1 number rule read admitted
 
 few_by : (schemas : List Schema) (rules : List Rule) (admissions : List Admission) → AllZip (IsTold schemas) rules admissions → Each (λ rule. excess schemas rule ≡ None) rules
 few_by schemas [] [] told number rule read = cc
@@ -176,7 +178,7 @@ made_result file procs admissions text is_file built program built_program numbe
         text_is = is ∙ sym (opt_without_facts file (map ruling_of admissions) (λ fact. false) procs (no_schemas file is_file built));
       };
       printed = printed;
-      returns = λ arg value bound fits returns. returns_kept file.schemas file.rules (map ruling_of admissions) (λ fact. false) procs (sound_by file.schemas file.rules admissions told) (bare file is_file built) program
+      returns = λ arg value bound fits returns. returns_kept file.schemas file.rules (map ruling_of admissions) (λ fact. false) procs (sound_by file.schemas file.rules admissions (λ number rule read. rule_of file number file.schemas rule is_file refl read) told) (bare file is_file built) program
           (straight procs built_program numbers) arg value bound fits returns;
     }
 

@@ -1,5 +1,6 @@
 use Rattle.std.proofs.Common.{◌+◌, sym, subst}
 use Rattle.rh_refuter.specs.Choice.{IsDecided, IsFound}
+use Rattle.rh_oblig.specs.Obligation.{IsSmall}
 use Rattle.rh_admit.proofs.Deciding.{AreClosed, closed_more, part_at, part_of}
 use Rattle.rh_admit.proofs.one.decide_all.Goals as goal
 
@@ -27,3 +28,13 @@ loop-number-preserved c =
     (closed_more c.args.obligations.now c.loop-number.number item c.loop-number.logs c.in-Closed.log c.loop-number-test.true c.index-obligations-number.is c.loop-number.invariant
     (subst (IsFound item.terms item.clauses) c.in-Closed.is c.in_ok-log.ensures.found)
     (subst (IsDecided item.terms item.clauses) c.in-Closed.is c.in_ok-log.ensures.decided).1)
+
+pub refute-requires-clause-few : goal.refute-requires-clause-few
+refute-requires-clause-few c =
+    let item = c.index-obligations-number.result in
+    (subst IsSmall (sym c.index-obligations-number.is) (c.requires.small c.loop-number.number item c.loop-number-test.true)).few
+
+pub refute-requires-clause-narrow : goal.refute-requires-clause-narrow
+refute-requires-clause-narrow c =
+    let item = c.index-obligations-number.result in
+    (subst IsSmall (sym c.index-obligations-number.is) (c.requires.small c.loop-number.number item c.loop-number-test.true)).narrow

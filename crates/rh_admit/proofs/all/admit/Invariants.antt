@@ -1,7 +1,7 @@
 use Rattle.std.proofs.Common.{take}
 use Rattle.std.specs.List.{AllZip}
 use Rattle.rh_admit.specs.Rules.{IsTold}
-use Rattle.rh_admit.proofs.all.admit_each.Given as goal
+use Rattle.rh_admit.proofs.all.admit.Given as goal
 
 abbrev pub invariant-loop-number : goal.invariant-loop-number
-invariant-loop-number l = AllZip (IsTold l.schemas) (take l.number l.rules) l.made.items
+invariant-loop-number l = AllZip (IsTold l.file.schemas) (take l.number l.file.rules) l.made.items
