@@ -13,36 +13,43 @@ mod layers;
 mod rounds;
 mod texts;
 
-use hard::hard_obligation;
+use hard::{hard_obligation, is_small};
 use layers::Layers;
 use rh_admit::admit;
 use rh_engine::solve;
 use rh_il_text::read_program;
 use rh_log::Admission;
 use rh_outside::OpenGate;
-use rh_refuter::{Verdict, is_small, refute};
+use rh_refuter::{Verdict, refute};
 use rh_rule_text::read_rules;
 use rh_system::greatest;
 use rounds::rounds;
 use std::alloc::{AllocError, Global};
+use std::rt::Clock;
+use std::thread::Threads;
 use std::time::Instant;
 use std::{env, io};
 use texts::text_of;
 
 /// Solves a system in layers.
-fn time_solver(rt: &HostRuntime, depth: u32, width: u32) -> io::Result<()> {
+fn time_solver<R: Threads + Print + Eprint + Clock + Sync>(
+    rt: &R,
+    alloc: Global,
+    depth: u32,
+    width: u32,
+) -> io::Result<()> {
     let Some(system) = Layers::new(width, depth) else {
         println!(rt; "too many words")?;
         return Ok(());
     };
     let start = Instant::now(rt)?;
-    let words = greatest(rt.alloc(), &system)?;
+    let words = greatest(alloc, &system)?;
     let taken = start.elapsed(rt)?.as_millis();
     println!(rt; "{} words by one thread", words.len())?;
-    eprintln!(rt; "  {taken} ms, {} rounds", rounds(rt.alloc(), &system)?)?;
+    eprintln!(rt; "  {taken} ms, {} rounds", rounds(alloc, &system)?)?;
     for workers in [1u32, 2, 4] {
         let start = Instant::now(rt)?;
-        let solved = solve(rt, rt.alloc(), &system, workers, &OpenGate)?;
+        let solved = solve(rt, alloc, &system, workers, &OpenGate)?;
         let taken = start.elapsed(rt)?.as_millis();
         let same = solved.words.as_slice() == words.as_slice();
         println!(rt;
@@ -142,7 +149,7 @@ fn main(rt: HostRuntime) -> io::Result<()> {
     let first = words.next();
     let second = words.next();
     match kind.as_deref() {
-        Some("solver") => time_solver(&rt, number(&first), number(&second)),
+        Some("solver") => time_solver(&rt, rt.alloc(), number(&first), number(&second)),
         Some("rules") => time_rules(&rt, text_of(&rt, first.as_deref()).as_slice()),
         Some("program") => time_program(&rt, text_of(&rt, first.as_deref()).as_slice()),
         Some("hard") => time_hard(&rt, number(&first)),

@@ -10,8 +10,8 @@ use crate::resolve::{
 };
 use crate::unknown::{unknown_conclusion, unknown_in_atoms, unknown_in_conds, unknown_pattern};
 use rh_il::Name;
-use rh_names::Names;
 use rh_list::Items;
+use rh_names::Names;
 use rh_rule::{Rule, Schema};
 use rh_rule_source::{SourceFact, SourceItem, SourceRule};
 use std::alloc::{AllocError, Global};

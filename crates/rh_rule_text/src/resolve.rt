@@ -5,8 +5,8 @@ ghost use Rattle.std.specs.List.{flat_map};
 ghost use Rattle.rh_rule_text.specs.Resolve.{place_of, number_of, meaning_base, rule_base, rule_operand, meaning_term, compared_atom, meaning_atom, rule_param, metas_of, assigned, rule_form, rule_pattern, fact_of, side_term, compared_side, premises_of, sides_of, conclusion_of};
 
 use rh_il::Name;
-use rh_names::Names;
 use rh_list::Items;
+use rh_names::Names;
 use rh_rule::{
     Conclusion, FactUse, Form, MeaningAtom, MeaningBase, MeaningTerm, Param, RuleBase, Side,
     SideTerm,
