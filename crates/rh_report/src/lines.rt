@@ -8,7 +8,7 @@ ghost use Rattle.rh_report.specs.Output.{rule_line, rule_lines, ruling_text};
 
 use rh_il::Program;
 use rh_il_text::print_program;
-use rh_print::{push, push_count};
+use rh_print::push;
 use rh_rule::{Rule, Ruling};
 use std::alloc::{AllocError, Global};
 
@@ -18,9 +18,8 @@ fn push_ruling(alloc: Global, out: &mut Vec<u8>, ruling: Ruling) -> Result<(), A
     match ruling {
         Ruling::Admitted => push(out, b" admitted\n"),
         Ruling::Refused(obligation) => {
-            push(out, b" refused at ")?;
-            push_count(alloc, out, u64::from(obligation))?;
-            push(out, b"\n")
+            let text = format!(in alloc; " refused at {obligation}\n")?;
+            push(out, text.as_bytes())
         }
     }
 }
