@@ -70,7 +70,9 @@ fn admitted(admissions: &[Admission]) -> usize {
 }
 
 /// Reads a rule file and proves its rules.
-fn time_rules(rt: &HostRuntime, text: &[u8]) -> io::Result<()> {
+fn time_rules(rt: &HostRuntime, text: &[u8]) -> io::Result<()>
+    requires { length text.now ≤ 1048576 }
+{
     let start = Instant::now(rt)?;
     let read = read_rules(rt.alloc(), text);
     let reading = start.elapsed(rt)?.as_micros();
@@ -95,7 +97,9 @@ fn time_rules(rt: &HostRuntime, text: &[u8]) -> io::Result<()> {
 }
 
 /// Reads a program.
-fn time_program(rt: &HostRuntime, text: &[u8]) -> io::Result<()> {
+fn time_program(rt: &HostRuntime, text: &[u8]) -> io::Result<()>
+    requires { length text.now ≤ 1048576 }
+{
     let start = Instant::now(rt)?;
     let read = read_program(rt.alloc(), text);
     let reading = start.elapsed(rt)?.as_micros();

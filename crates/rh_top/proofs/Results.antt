@@ -4,7 +4,7 @@ use Rattle.std.proofs.lemmas.Bool.{and_parts, eqb-true}
 use Rattle.std.specs.List.{AllZip, list_all}
 use Rattle.std.specs.Prelude.{IfOk, slice_get}
 use Rattle.rh_list.specs.Each.{Each}
-use Rattle.rh_admit.specs.Rules.{IsTold, excess}
+use Rattle.rh_admit.specs.Rules.{IsTold}
 use Rattle.rh_il.specs.declared.program.Proc.{Proc}
 use Rattle.rh_il.specs.declared.program.Stmt.{Stmt}
 use Rattle.rh_il.specs.declared.program.Stmt.TheVariants.{Skip, Copy, Address, Load, Compute, Write, New, Call, Goto, If, Return}
@@ -12,6 +12,7 @@ use Rattle.rh_il.specs.Checks.{IsProgram}
 use Rattle.rh_il.specs.Numbers.{HasNumbers}
 use Rattle.rh_log.specs.declared.log.Admission.{Admission}
 use Rattle.rh_log.specs.Admission.{ruling_of}
+use Rattle.rh_oblig.specs.Obligation.{excess}
 use Rattle.rh_oblig.specs.Ruling.{IsRuling}
 use Rattle.rh_oblig.proofs.Sound.{admitted_are_sound}
 use Rattle.rh_oblig.specs.Valid.{IsSound}

@@ -2,10 +2,11 @@
 use Rattle.std.specs.Prelude.{ℕ, ◌≡◌, List, None, IfSome}
 use Rattle.rh_admit.specs.declared.all.AdmitFault.{AdmitFault}
 use Rattle.rh_admit.specs.declared.all.AdmitFault.TheVariants.{TooManyTerms, NoMemory as NoAdmitMemory}
-use Rattle.rh_admit.specs.Rules.{IsFirstExcess, excess}
+use Rattle.rh_admit.specs.Rules.{IsFirstExcess}
 use Rattle.rh_il_text.specs.declared.fault.ReadFault.{ReadFault as ProgramFault}
 use Rattle.rh_il_text.specs.declared.fault.ReadFault.TheVariants.{Lex as ProgramLex, Syntax as ProgramSyntax, Unknown as ProgramUnknown, Program as ProgramWrong, NoMemory as NoProgramMemory}
 use Rattle.rh_list.specs.Each.{Each}
+use Rattle.rh_oblig.specs.Obligation.{excess}
 use Rattle.rh_rule.specs.RuleFiles.{Rules}
 use Rattle.rh_rule_text.specs.declared.fault.RulesFault.{RulesFault}
 use Rattle.rh_rule_text.specs.declared.fault.RulesFault.TheVariants.{Lex as RulesLex, Syntax as RulesSyntax, Unknown as RulesUnknown, Rules as RulesWrong, NoMemory as NoRulesMemory}
