@@ -13,6 +13,8 @@ mod layers;
 mod rounds;
 mod texts;
 
+ghost use Rattle.std.specs.Prelude.{◌≤◌, length};
+
 use hard::{hard_obligation, is_small};
 use layers::Layers;
 use rh_admit::admit;
