@@ -39,6 +39,6 @@ sums() {
 }
 
 for premises in 1 2 4 6 8; do atoms 8 1 "$premises"; done
-atoms 64 256 8
+atoms 64 256 7
 sums 256
 for splits in 0 1 2 3 4; do rt run -- hard "$splits"; done
