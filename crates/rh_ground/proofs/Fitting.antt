@@ -18,8 +18,8 @@ use Rattle.rh_rule.specs.declared.schema.Kind.{Kind}
 use Rattle.rh_rule.specs.declared.schema.Kind.TheVariants.{Var as AVar, Const as AConst}
 use Rattle.rh_rule.specs.declared.schema.Param.{Param}
 use Rattle.rh_rule.specs.Params.{kind_of}
-use Rattle.rh_ground.specs.Binding.{Binding, FitsKind, FitsBinding, args_of, as_base, as_variable, base_under, bindings, bound}
-use Rattle.rh_ground.specs.Constants.{with_number, rising, constants_of}
+use Rattle.rh_domain.specs.Binding.{Binding, FitsKind, FitsBinding, args_of, as_base, as_variable, base_under, bindings, bound}
+use Rattle.rh_domain.specs.Constants.{with_number, rising, constants_of}
 use Rattle.rh_ground.proofs.Members.{IsItem, item_of_map, item_of_flat_map, item_of_range}
 
 zero_fits : IsNumber (pos 0)

@@ -13,7 +13,7 @@ use Rattle.rh_rule.specs.declared.rule.Form.{Form}
 use Rattle.rh_rule.specs.declared.rule.Form.TheVariants.{Entry, Goto, Skip, AnyAssign, Assign, Address, Load, Compute, Write, New, Call, If, Return}
 use Rattle.rh_rule.specs.declared.rule.RuleBase.{RuleBase}
 use Rattle.rh_rule.specs.declared.rule.RuleBase.TheVariants.{Meta, Num, Wild}
-use Rattle.rh_ground.specs.Binding.{Binding, arg_eq, bound, as_variable, base_under, variable_under}
+use Rattle.rh_domain.specs.Binding.{Binding, arg_eq, bound, as_variable, base_under, variable_under}
 use Rattle.rh_ground.specs.Match.{base_eq, is_variable, is_operand, matches, template_under}
 use Rattle.rh_ground.specs.Template.{IsTame}
 

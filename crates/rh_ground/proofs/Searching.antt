@@ -16,7 +16,7 @@ use Rattle.rh_rule.specs.declared.rule.Arg.TheVariants.{Var}
 use Rattle.rh_rule.specs.declared.rule.Form.{Form}
 use Rattle.rh_rule.specs.declared.schema.Kind.TheVariants.{Var as AVar}
 use Rattle.rh_rule.specs.declared.schema.Param.{Param}
-use Rattle.rh_ground.specs.Binding.{Binding, args_of, bindings, bound}
+use Rattle.rh_domain.specs.Binding.{Binding, args_of, bindings, bound}
 use Rattle.rh_ground.specs.Match.{is_operand, is_variable, matches}
 use Rattle.rh_ground.specs.Search.{AreVars, Finds}
 

@@ -8,7 +8,7 @@ use Rattle.rh_il.specs.Flow.{slot_target}
 use Rattle.rh_rule.specs.declared.rule.Form.{Form}
 use Rattle.rh_rule.specs.declared.rule.Form.TheVariants.{Entry, Goto, Skip, AnyAssign, Assign, Address, Load, Compute, Write, New, Call, If, Return}
 use Rattle.rh_rule.specs.declared.schema.Param.{Param}
-use Rattle.rh_ground.specs.Binding.{Binding}
+use Rattle.rh_domain.specs.Binding.{Binding}
 use Rattle.rh_ground.specs.Match.{matches, template_under}
 use Rattle.rh_ground.specs.Template.{IsPlain, IsTemplateOf}
 use Rattle.rh_ground.proofs.Matched.{IsExact, matched}

@@ -11,7 +11,7 @@ use Rattle.rh_rule.specs.declared.rule.Form.{Form}
 use Rattle.rh_rule.specs.declared.rule.Form.TheVariants.{Goto, Skip, AnyAssign, Assign, Address, Load, Compute, Write, New, Call, If, Return}
 use Rattle.rh_rule.specs.declared.rule.RuleBase.{RuleBase}
 use Rattle.rh_rule.specs.declared.rule.RuleBase.TheVariants.{Meta, Num, Wild}
-use Rattle.rh_ground.specs.Binding.{Binding, arg_eq, bound, base_under, variable_under}
+use Rattle.rh_domain.specs.Binding.{Binding, arg_eq, bound, base_under, variable_under}
 
 abbrev pub base_eq : Base → Base → Bool
 base_eq (AVariable a) (AVariable b) = a == b

@@ -6,7 +6,7 @@ use Rattle.rh_il.specs.declared.program.Stmt.{Stmt}
 use Rattle.rh_rule.specs.declared.rule.Form.{Form}
 use Rattle.rh_rule.specs.declared.schema.Kind.TheVariants.{Var}
 use Rattle.rh_rule.specs.declared.schema.Param.{Param}
-use Rattle.rh_ground.specs.Binding.{Binding, bindings}
+use Rattle.rh_domain.specs.Binding.{Binding, bindings}
 use Rattle.rh_ground.specs.Match.{matches}
 
 -- each metavariable stands for a variable

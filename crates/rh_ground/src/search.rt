@@ -2,7 +2,7 @@
 ghost use Rattle.std.specs.Prelude.{◌≡◌, ◌<◌, ◌^◌, true, IfOk, length};
 ghost use Rattle.std.specs.List.{find};
 ghost use Rattle.std.specs.Option.{option_map};
-ghost use Rattle.rh_ground.specs.Binding.{Binding, bindings, bound};
+ghost use Rattle.rh_domain.specs.Binding.{Binding, bindings, bound};
 ghost use Rattle.rh_ground.specs.Match.{is_operand, is_variable, matches};
 ghost use Rattle.rh_ground.specs.Search.{AreVars, Finds};
 

@@ -24,7 +24,7 @@ use Rattle.rh_rule.specs.declared.schema.Kind.TheVariants.{Var as AVar, Const as
 use Rattle.rh_rule.specs.declared.schema.Param.{Param}
 use Rattle.rh_rule.specs.declared.schema.Schema.{Schema}
 use Rattle.rh_rule.specs.Params.{kind_of}
-use Rattle.rh_ground.specs.Binding.{Binding, FitsKind, FitsBinding, bound, as_number, base_under}
+use Rattle.rh_domain.specs.Binding.{Binding, FitsKind, FitsBinding, bound, as_number, base_under}
 use Rattle.rh_ground.specs.Match.{matches, template_under, callee_of}
 use Rattle.rh_term.specs.Model.{Model, IsModel, AValue, AStore, alike, is_number, value_of}
 use Rattle.rh_term.proofs.Stores.{value_eq-true, same_store-reads}

@@ -11,7 +11,7 @@ use Rattle.rh_rule.specs.declared.schema.Kind.{Kind}
 use Rattle.rh_rule.specs.declared.schema.Kind.TheVariants.{Var as AVar, Const as AConst}
 use Rattle.rh_rule.specs.declared.schema.Param.{Param}
 use Rattle.rh_rule.specs.Params.{kind_of}
-use Rattle.rh_ground.specs.Binding.{Binding, FitsKind, FitsBinding, bound, as_base, as_number, as_variable, base_under}
+use Rattle.rh_domain.specs.Binding.{Binding, FitsKind, FitsBinding, bound, as_base, as_number, as_variable, base_under}
 use Rattle.rh_term.specs.Model.{AValue}
 use Rattle.rh_term.specs.Store.{read}
 use Rattle.rh_oblig.specs.Literal.{value_tree}

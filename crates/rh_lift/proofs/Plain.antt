@@ -20,7 +20,7 @@ use Rattle.rh_rule.specs.declared.rule.RuleBase.{RuleBase}
 use Rattle.rh_rule.specs.declared.schema.Kind.TheVariants.{Var as AVar}
 use Rattle.rh_rule.specs.declared.schema.Param.{Param}
 use Rattle.rh_rule.specs.Params.{kind_of}
-use Rattle.rh_ground.specs.Binding.{Binding, FitsBinding, bound, as_variable, base_under, variable_under}
+use Rattle.rh_domain.specs.Binding.{Binding, FitsBinding, bound, as_variable, base_under, variable_under}
 use Rattle.rh_ground.specs.Match.{template_under}
 use Rattle.rh_term.specs.Model.{Model, AStore, is_number, value_of, store_of}
 use Rattle.rh_term.specs.Store.{write, select, update}

@@ -23,7 +23,7 @@ use Rattle.rh_il_step.specs.Step.{Outcome, Went, Returned, Stuck, entered, execu
 use Rattle.rh_rule.specs.declared.rule.Rule.{Rule}
 use Rattle.rh_rule.specs.declared.rule.Ruling.{Ruling}
 use Rattle.rh_rule.specs.declared.schema.Schema.{Schema}
-use Rattle.rh_ground.specs.Facts.{Known}
+use Rattle.rh_domain.specs.Facts.{Known}
 use Rattle.rh_ground.proofs.Members.{read_all_numbered}
 use Rattle.rh_ground.proofs.Shapes.{Shape, Calling, shape_of}
 use Rattle.rh_transform.specs.Rewritten.{first_applicable, rewritten_statement, rewritten_body, rewritten_proc, rewritten}

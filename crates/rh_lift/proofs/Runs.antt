@@ -12,7 +12,7 @@ use Rattle.rh_il_step.specs.Step.{Stuck, executed}
 use Rattle.rh_rule.specs.declared.rule.Rule.{Rule}
 use Rattle.rh_rule.specs.declared.rule.Ruling.{Ruling}
 use Rattle.rh_rule.specs.declared.schema.Schema.{Schema}
-use Rattle.rh_ground.specs.Facts.{Known}
+use Rattle.rh_domain.specs.Facts.{Known}
 use Rattle.rh_oblig.specs.Hypotheses.{side_literal, units}
 use Rattle.rh_oblig.specs.Meaning.{fact_literals}
 use Rattle.rh_oblig.specs.Statement.{before}

@@ -8,7 +8,7 @@ use Rattle.rh_rule.specs.declared.rule.Conclusion.TheVariants.{Transform}
 use Rattle.rh_rule.specs.declared.rule.Form.{Form}
 use Rattle.rh_rule.specs.declared.rule.Rule.{Rule}
 use Rattle.rh_rule.specs.declared.schema.Schema.{Schema}
-use Rattle.rh_ground.specs.Binding.{Binding, FitsBinding, bound, as_number, as_variable}
+use Rattle.rh_domain.specs.Binding.{Binding, FitsBinding, bound, as_number, as_variable}
 use Rattle.rh_ground.specs.Match.{matches, template_under}
 use Rattle.rh_ground.specs.Template.{IsTemplateOf}
 use Rattle.rh_term.specs.Model.{Model}

@@ -13,7 +13,7 @@ use Rattle.rh_rule.specs.declared.rule.Form.{Form}
 use Rattle.rh_rule.specs.declared.rule.Rule.{Rule}
 use Rattle.rh_rule.specs.declared.rule.Ruling.{Ruling}
 use Rattle.rh_rule.specs.RuleFiles.{Rules}
-use Rattle.rh_ground.specs.Facts.{Known, all_facts, facts_in}
+use Rattle.rh_domain.specs.Facts.{Known, all_facts, facts_in}
 use Rattle.rh_ground.specs.Rows.{IsGreatest}
 use Rattle.rh_oblig.specs.Ruling.{IsRuling}
 use Rattle.rh_transform.specs.Rewritten.{rewritten}

@@ -12,8 +12,8 @@ use Rattle.rh_rule.specs.declared.rule.Form.{Form}
 use Rattle.rh_rule.specs.declared.rule.Rule.{Rule}
 use Rattle.rh_rule.specs.declared.rule.Ruling.{Ruling}
 use Rattle.rh_rule.specs.declared.rule.Ruling.TheVariants.{Admitted}
-use Rattle.rh_ground.specs.Binding.{Binding, bindings}
-use Rattle.rh_ground.specs.Facts.{Known}
+use Rattle.rh_domain.specs.Binding.{Binding, bindings}
+use Rattle.rh_domain.specs.Facts.{Known}
 use Rattle.rh_ground.specs.Instance.{fact_under, is_conclusion_in_domain, is_fact_in_domain, side_holds}
 use Rattle.rh_ground.specs.Match.{matches, template_under}
 use Rattle.rh_ground.specs.Rows.{edges_before, on_edges, premises_at}

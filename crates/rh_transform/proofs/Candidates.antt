@@ -16,8 +16,8 @@ use Rattle.rh_rule.specs.declared.rule.Conclusion.TheVariants.{Fact, Transform}
 use Rattle.rh_rule.specs.declared.rule.Rule.{Rule}
 use Rattle.rh_rule.specs.declared.rule.Ruling.{Ruling}
 use Rattle.rh_rule.specs.declared.rule.Ruling.TheVariants.{Admitted, Refused}
-use Rattle.rh_ground.specs.Binding.{bindings}
-use Rattle.rh_ground.specs.Facts.{Known}
+use Rattle.rh_domain.specs.Binding.{bindings}
+use Rattle.rh_domain.specs.Facts.{Known}
 use Rattle.rh_ground.specs.Match.{matches, template_under}
 use Rattle.rh_transform.specs.Rewritten.{Candidate, candidates_of, candidates, is_applicable, first_applicable, rewritten_statement, rewritten_body}
 use Rattle.rh_ground.specs.Template.{IsTemplateOf}

@@ -23,8 +23,8 @@ use Rattle.rh_rule.specs.declared.rule.Ruling.{Ruling}
 use Rattle.rh_rule.specs.declared.schema.Kind.TheVariants.{Var as AVar}
 use Rattle.rh_rule.specs.declared.schema.Param.{Param}
 use Rattle.rh_rule.specs.Params.{kind_of}
-use Rattle.rh_ground.specs.Binding.{Binding, FitsBinding, base_under, variable_under}
-use Rattle.rh_ground.specs.Facts.{Known}
+use Rattle.rh_domain.specs.Binding.{Binding, FitsBinding, base_under, variable_under}
+use Rattle.rh_domain.specs.Facts.{Known}
 use Rattle.rh_ground.specs.Match.{callee_of, matches, template_under}
 use Rattle.rh_ground.specs.Template.{IsPlain, IsTemplateOf}
 use Rattle.rh_ground.proofs.Fitting.{binding_fits, operand_inside, variable_inside}

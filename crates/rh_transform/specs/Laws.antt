@@ -6,7 +6,7 @@ use Rattle.rh_il.specs.Checks.{IsProgram}
 use Rattle.rh_il.specs.Numbers.{HasNumbers}
 use Rattle.rh_rule.specs.declared.rule.Rule.{Rule}
 use Rattle.rh_rule.specs.declared.rule.Ruling.{Ruling}
-use Rattle.rh_ground.specs.Facts.{Known}
+use Rattle.rh_domain.specs.Facts.{Known}
 use Rattle.rh_transform.specs.Bare.{IsBare}
 use Rattle.rh_transform.specs.Rewritten.{rewritten}
 

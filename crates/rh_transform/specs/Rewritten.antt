@@ -11,8 +11,8 @@ use Rattle.rh_rule.specs.declared.rule.Form.{Form}
 use Rattle.rh_rule.specs.declared.rule.Rule.{Rule}
 use Rattle.rh_rule.specs.declared.rule.Ruling.{Ruling}
 use Rattle.rh_rule.specs.declared.rule.Ruling.TheVariants.{Admitted, Refused}
-use Rattle.rh_ground.specs.Binding.{Binding, bindings}
-use Rattle.rh_ground.specs.Facts.{Known}
+use Rattle.rh_domain.specs.Binding.{Binding, bindings}
+use Rattle.rh_domain.specs.Facts.{Known}
 use Rattle.rh_ground.specs.Instance.{is_instance}
 use Rattle.rh_ground.specs.Rows.{premises_at}
 use Rattle.rh_ground.specs.Match.{template_under}

@@ -4,7 +4,7 @@ ghost use Rattle.std.specs.List.{enumerate_from};
 ghost use Rattle.std.specs.Option.{option_map};
 ghost use Rattle.rh_list.specs.Each.{Each};
 ghost use Rattle.rh_il.specs.Checks.{IsProgram};
-ghost use Rattle.rh_ground.specs.Facts.{Known};
+ghost use Rattle.rh_domain.specs.Facts.{Known};
 ghost use Rattle.rh_ground.specs.Match.{template_under};
 ghost use Rattle.rh_transform.specs.Bare.{IsBare};
 ghost use Rattle.rh_transform.specs.Rewritten.{first_applicable, rewritten, rewritten_proc, rewritten_statement, template_of};

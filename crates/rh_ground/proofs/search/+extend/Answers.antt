@@ -2,7 +2,7 @@ use Rattle.std.proofs.Common.{length, ◌∷◌, ◌++◌, [], true, false, ap, 
 use Rattle.std.proofs.Common.{Vec, Global}
 use Rattle.rh_rule.specs.declared.rule.Arg.{Arg}
 use Rattle.rh_rule.specs.declared.rule.Arg.TheVariants.{Var}
-use Rattle.rh_ground.specs.Binding.{bound}
+use Rattle.rh_domain.specs.Binding.{bound}
 use Rattle.rh_ground.specs.Match.{matches}
 use Rattle.rh_ground.proofs.Searching.{nothing_left, finds_at_end, finds_moved, found_behind, cut_back, passes_over, tried}
 use Rattle.rh_ground.proofs.search.+extend.Goals as goal

@@ -1,6 +1,6 @@
 use Rattle.std.proofs.Common.{length, ◌≡◌}
 use Rattle.std.specs.List.{find}
-use Rattle.rh_ground.specs.Binding.{bindings}
+use Rattle.rh_domain.specs.Binding.{bindings}
 use Rattle.rh_ground.proofs.Searching.{goes, first_from}
 use Rattle.rh_ground.proofs.search.+extend.Given as goal
 

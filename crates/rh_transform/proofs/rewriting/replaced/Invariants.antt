@@ -1,6 +1,6 @@
 use Rattle.std.proofs.Common.{ℕ, ◌≡◌, Some}
 use Rattle.std.specs.Prelude.{slice_get}
-use Rattle.rh_ground.specs.Facts.{Known}
+use Rattle.rh_domain.specs.Facts.{Known}
 use Rattle.rh_transform.proofs.Applying.{none_before}
 use Rattle.rh_transform.proofs.rewriting.replaced.Given as goal
 

@@ -1,5 +1,5 @@
 use Rattle.std.proofs.Common.{ℕ, ◌≡◌, take}
-use Rattle.rh_ground.specs.Facts.{Known}
+use Rattle.rh_domain.specs.Facts.{Known}
 use Rattle.rh_transform.specs.Rewritten.{rewritten_statement}
 use Rattle.rh_transform.proofs.Numbered.{changed}
 use Rattle.rh_transform.proofs.rewriting.rewrite_proc.Given as goal

@@ -1,6 +1,6 @@
 use Rattle.std.proofs.Common.{ap, sym, ◌∙◌}
 use Rattle.std.specs.List.{find}
-use Rattle.rh_ground.specs.Binding.{bindings}
+use Rattle.rh_domain.specs.Binding.{bindings}
 use Rattle.rh_ground.specs.Match.{matches, template_under}
 use Rattle.rh_transform.specs.Rewritten.{template_of}
 use Rattle.rh_transform.proofs.Applying.{mapped_twice, template_by}

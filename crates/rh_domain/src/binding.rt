@@ -1,19 +1,19 @@
 //! What metavariables are bound to.
 ghost use Rattle.std.specs.Prelude.{◌≡◌};
-ghost use Rattle.rh_ground.specs.Binding.{arg_under, as_base, as_variable, base_under, bound, variable_under};
+ghost use Rattle.rh_domain.specs.Binding.{arg_under, as_base, as_variable, base_under, bound, variable_under};
 
 use rh_il::Base;
 use rh_rule::{Arg, RuleBase};
 
 /// What a metavariable is bound to.
-pub(crate) fn bound(binding: &[Arg], meta: u32) -> Arg
+pub fn bound(binding: &[Arg], meta: u32) -> Arg
     ensures { result ≡ bound binding.now meta }
 {
     binding.get(meta as usize).copied().unwrap_or(Arg::Const(0))
 }
 
 /// The operand of a statement that an argument is.
-pub(crate) fn as_base(arg: Arg) -> Base
+pub fn as_base(arg: Arg) -> Base
     ensures { result ≡ as_base arg }
 {
     match arg {
@@ -31,7 +31,7 @@ fn as_variable(arg: Arg) -> u32
     }
 }
 
-fn arg_under(binding: &[Arg], base: RuleBase) -> Arg
+pub fn arg_under(binding: &[Arg], base: RuleBase) -> Arg
     ensures { result ≡ arg_under binding.now base }
 {
     match base {
@@ -42,14 +42,14 @@ fn arg_under(binding: &[Arg], base: RuleBase) -> Arg
 }
 
 /// The operand of a statement that an operand of a rule is under a binding.
-pub(crate) fn base_under(binding: &[Arg], base: RuleBase) -> Base
+pub fn base_under(binding: &[Arg], base: RuleBase) -> Base
     ensures { result ≡ base_under binding.now base }
 {
     as_base(arg_under(binding, base))
 }
 
 /// The variable that a metavariable is bound to.
-pub(crate) fn variable_under(binding: &[Arg], meta: u32) -> u32
+pub fn variable_under(binding: &[Arg], meta: u32) -> u32
     ensures { result ≡ variable_under binding.now meta }
 {
     as_variable(bound(binding, meta))

@@ -14,7 +14,8 @@ use Rattle.rh_rule.specs.declared.schema.Kind.TheVariants.{Var as AVar, Const as
 use Rattle.rh_rule.specs.declared.schema.Param.{Param}
 use Rattle.rh_rule.specs.Params.{kind_of}
 use Rattle.rh_il.specs.Value.{IsNumber}
-use Rattle.rh_ground.specs.Constants.{constants_of}
+use Rattle.rh_domain.specs.declared.domain.Domain.{Domain}
+use Rattle.rh_domain.specs.Constants.{constants_of}
 
 -- for each metavariable, by its number, what it is bound to
 abbrev pub Binding : Type 0
@@ -26,15 +27,25 @@ arg_eq (Const a) (Const b) = int_eq a b
 arg_eq (Var a) (Const b) = false
 arg_eq (Const a) (Var b) = false
 
+-- the variables and the constants of a procedure
+abbrev pub domain_of : Proc → Domain
+domain_of proc = record { vars = length proc.vars; constants = constants_of proc }
+
 -- what a metavariable of this kind may be bound to: variables by number, constants rising
+abbrev pub args_in : Domain → Kind → List Arg
+args_in domain AVar = map Var (range_with_len 0 domain.vars)
+args_in domain AConst = map Const domain.constants
+
 abbrev pub args_of : Proc → Kind → List Arg
-args_of proc AVar = map Var (range_with_len 0 (length proc.vars))
-args_of proc AConst = map Const (constants_of proc)
+args_of proc kind = args_in (domain_of proc) kind
 
 -- all bindings, ordered by the first metavariable, then by the second, and so on
+abbrev pub bindings_in : Domain → List Param → List Binding
+bindings_in domain [] = [] ∷ []
+bindings_in domain (param ∷ params) = flat_map (λ arg. map (λ rest. arg ∷ rest) (bindings_in domain params)) (args_in domain param.kind)
+
 abbrev pub bindings : Proc → List Param → List Binding
-bindings proc [] = [] ∷ []
-bindings proc (param ∷ params) = flat_map (λ arg. map (λ rest. arg ∷ rest) (bindings proc params)) (args_of proc param.kind)
+bindings proc params = bindings_in (domain_of proc) params
 
 abbrev pub bound : Binding → ℕ → Arg
 bound binding meta = slice_index_or binding meta (Const (pos 0))

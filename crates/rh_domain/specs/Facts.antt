@@ -4,32 +4,27 @@ use Rattle.std.specs.List.{flat_map, enumerate_from}
 use Rattle.rh_il.specs.declared.program.Edge.{Edge}
 use Rattle.rh_il.specs.declared.program.Proc.{Proc}
 use Rattle.rh_il.specs.Flow.{edges_of}
-use Rattle.rh_rule.specs.declared.rule.Arg.{Arg}
 use Rattle.rh_rule.specs.declared.schema.Schema.{Schema}
-use Rattle.rh_ground.specs.Binding.{bindings}
-
--- a fact without metavariables: a schema by its number, and its arguments
-pub record GroundFact : Type 0 where
-  pub schema : ℕ
-  pub args : List Arg
-
--- a fact on an edge of a procedure
-pub record FactAt : Type 0 where
-  pub proc : ℕ
-  pub edge : Edge
-  pub fact : GroundFact
+use Rattle.rh_domain.specs.declared.domain.Domain.{Domain}
+use Rattle.rh_domain.specs.declared.fact.GroundFact.{GroundFact}
+use Rattle.rh_domain.specs.declared.fact.FactAt.{FactAt}
+use Rattle.rh_domain.specs.Binding.{bindings_in, domain_of}
 
 -- which facts are known on the edges of which procedures
 abbrev pub Known : Type 0
 Known = FactAt → Bool
 
-abbrev pub facts_of_schema : Proc → ℕ → Schema → List GroundFact
-facts_of_schema proc number schema = map (λ args. record { schema = number; args = args }) (bindings proc schema.params)
+abbrev pub facts_of_schema : Domain → ℕ → Schema → List GroundFact
+facts_of_schema domain number schema = map (λ args. record { schema = number; args = args }) (bindings_in domain schema.params)
 
--- the facts of a procedure, ordered by schema, and then by their arguments from the first: variables by
+-- the facts over variables and constants, ordered by schema, and then by their arguments from the first: variables by
 -- number, constants rising
+abbrev pub facts_over : Domain → List Schema → List GroundFact
+facts_over domain schemas = flat_map (λ at. facts_of_schema domain at.0 at.1) (enumerate_from 0 schemas)
+
+-- the facts of a procedure
 abbrev pub facts_of : List Schema → Proc → List GroundFact
-facts_of schemas proc = flat_map (λ at. facts_of_schema proc at.0 at.1) (enumerate_from 0 schemas)
+facts_of schemas proc = facts_over (domain_of proc) schemas
 
 abbrev pub facts_on : List Schema → Proc → ℕ → Edge → List FactAt
 facts_on schemas proc number edge = map (λ fact. record { proc = number; edge = edge; fact = fact }) (facts_of schemas proc)

@@ -1,0 +1,5 @@
+pub mod Constants
+pub mod Binding
+pub mod Facts
+pub mod Count
+pub mod First
