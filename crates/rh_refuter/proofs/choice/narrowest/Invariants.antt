@@ -2,7 +2,7 @@ use Rattle.std.proofs.Common.{◌≡◌}
 use Rattle.std.specs.Prelude.{MatchOption}
 use Rattle.rh_refuter.specs.Choice.{width_at}
 use Rattle.rh_refuter.proofs.Choosing.{IsBest, NoneBelow}
-use Rattle.rh_refuter.proofs.choice.chosen.Given as goal
+use Rattle.rh_refuter.proofs.choice.narrowest.Given as goal
 
 abbrev pub invariant-loop-number : goal.invariant-loop-number
 invariant-loop-number l =
