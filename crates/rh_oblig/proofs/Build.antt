@@ -5,16 +5,17 @@ use Rattle.std.specs.List.{flat_map, AllByRecursion}
 use Rattle.std.proofs.Math.Seq.{drop-cons}
 use Rattle.std.proofs.lemmas.List.{map-append, take_more}
 use Rattle.rh_list.proofs.Appended.{apart}
-use Rattle.rh_oblig.specs.Obligation.{clause_in, clauses_in}
+use Rattle.rh_meaning.specs.Placed.{clause_in, clauses_in}
 use Rattle.rh_term.specs.declared.term.Term.{Term}
-use Rattle.rh_oblig.specs.declared.literal.TreeLit.{TreeLit as BuiltLit}
-use Rattle.rh_oblig.specs.declared.hypotheses.TreeClause.{TreeClause as BuiltClause}
-use Rattle.rh_oblig.specs.Sorts.{AreFit, IsSorted}
-use Rattle.rh_oblig.specs.TermList.{clause_trees, literal_trees, with_trees}
-use Rattle.rh_oblig.specs.Tree.{Tree, Leaf, with_term, with_tree}
-use Rattle.rh_oblig.specs.View.{clauses_of, lit_of, lits_of}
+use Rattle.rh_meaning.specs.declared.literal.TreeLit.{TreeLit as BuiltLit}
+use Rattle.rh_meaning.specs.declared.literal.TreeClause.{TreeClause as BuiltClause}
+use Rattle.rh_oblig.specs.TermList.{AreFit, with_trees}
+use Rattle.rh_meaning.specs.Sorts.{IsSorted}
+use Rattle.rh_meaning.specs.Literal.{clause_trees, literal_trees}
+use Rattle.rh_meaning.specs.Tree.{Tree, Leaf, with_term, with_tree}
+use Rattle.rh_meaning.specs.View.{clauses_of, lit_of, lits_of}
 use Rattle.rh_oblig.proofs.RuleTrees.{IsSortedLeaf}
-use Rattle.rh_oblig.proofs.Sorted.{leaf_parts}
+use Rattle.rh_meaning.proofs.Sorted.{leaf_parts}
 
 pub with_trees_both : (terms : List Term) (a b : List Tree) → with_trees terms (a ++ b) ≡ with_trees (with_trees terms a) b
 with_trees_both terms [] b = refl

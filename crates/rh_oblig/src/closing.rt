@@ -1,12 +1,11 @@
 //! The list with all terms to which its terms lead.
 ghost use Rattle.std.specs.Prelude.{◌≡◌, ◌<◌, ◌^◌, IfOk, IsSome, OnOk, fold, slice_get};
-ghost use Rattle.rh_oblig.specs.Sorts.{AreFit};
-ghost use Rattle.rh_oblig.specs.TermList.{closed, terms_from};
-ghost use Rattle.rh_oblig.specs.Tree.{with_term};
+ghost use Rattle.rh_oblig.specs.TermList.{AreFit, closed, terms_from};
+ghost use Rattle.rh_meaning.specs.Tree.{with_term};
 ghost use Rattle.rh_term.specs.Term.{IsTermList};
 
-use crate::list::add;
 use rh_il::Value;
+use rh_meaning::add;
 use rh_term::{Term, Terms};
 use std::alloc::{AllocError, Global};
 

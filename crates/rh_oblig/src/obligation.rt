@@ -3,17 +3,19 @@ ghost use Rattle.std.specs.Prelude.{ℕ, ◌≡◌, ◌<◌, ◌≤◌, ◌^◌,
 ghost use Rattle.rh_rule.specs.RuleFiles.{IsRuleOf, OfRule};
 ghost use Rattle.rh_term.specs.Laws.{denial};
 ghost use Rattle.std.specs.List.{All, AllByRecursion, flat_map};
-ghost use Rattle.rh_oblig.specs.Obligation.{IsSmall, clause_in, clauses_in, excess, lit_in, obligation_clauses, obligations_of, parts_of};
-ghost use Rattle.rh_oblig.specs.Sorts.{AreFewClauses, IsIn, IsSorted};
-ghost use Rattle.rh_oblig.specs.TermList.{clause_trees, literal_trees, term_list};
-ghost use Rattle.rh_oblig.specs.View.{clauses_of, lit_of, lits_of};
+ghost use Rattle.rh_oblig.specs.Obligation.{IsSmall, excess, obligation_clauses, obligations_of, parts_of};
+ghost use Rattle.rh_meaning.specs.Placed.{clause_in, clauses_in, lit_in};
+ghost use Rattle.rh_oblig.specs.Few.{AreFewClauses};
+ghost use Rattle.rh_meaning.specs.Sorts.{IsIn, IsSorted};
+ghost use Rattle.rh_meaning.specs.Literal.{clause_trees, literal_trees};
+ghost use Rattle.rh_oblig.specs.TermList.{term_list};
+ghost use Rattle.rh_meaning.specs.View.{clauses_of, lit_of, lits_of};
 
 use crate::goals::goals;
-use crate::hypotheses::{TreeClause, hypotheses};
-use crate::list::tree_place;
-use crate::literal::TreeLit;
+use crate::hypotheses::hypotheses;
 use crate::term_list::term_list;
 use rh_axioms::{instances, standard};
+use rh_meaning::{TreeClause, TreeLit, tree_place};
 use rh_rule::{Rule, RuleFile, Schema};
 use rh_term::{Clause, Lit, Obligation, Terms};
 use std::alloc::{AllocError, AllocFailed, Global};

@@ -2,15 +2,14 @@
 ghost use Rattle.std.specs.Prelude.{◌≡◌, ◌<◌, ◌^◌, [], IfOk, OnOk, length, map};
 ghost use Rattle.std.specs.List.{AllByRecursion, flat_map, range_with_len};
 ghost use Rattle.rh_rule.specs.Params.{kind_of};
-ghost use Rattle.rh_oblig.specs.Sorts.{IsSorted};
-ghost use Rattle.rh_oblig.specs.TermList.{binding_leaf, clause_trees, first_leaf, leaves_of, literal_trees, term_list, with_trees};
-ghost use Rattle.rh_oblig.specs.Tree.{Leaf};
-ghost use Rattle.rh_oblig.specs.View.{clauses_of, lit_of, lits_of};
+ghost use Rattle.rh_meaning.specs.Sorts.{IsSorted};
+ghost use Rattle.rh_oblig.specs.TermList.{binding_leaf, first_leaf, leaves_of, term_list, with_trees};
+ghost use Rattle.rh_meaning.specs.Literal.{clause_trees, literal_trees};
+ghost use Rattle.rh_meaning.specs.Tree.{Leaf};
+ghost use Rattle.rh_meaning.specs.View.{clauses_of, lit_of, lits_of};
 
 use crate::closing::{add_all, close};
-use crate::hypotheses::TreeClause;
-use crate::list::add_tree;
-use crate::literal::{TreeLit, kind_of};
+use rh_meaning::{TreeClause, TreeLit, add_tree, kind_of};
 use rh_rule::{Form, Kind, Param};
 use rh_term::{Term, Terms};
 use std::alloc::{AllocError, Global};

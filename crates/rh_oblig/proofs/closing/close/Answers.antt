@@ -1,6 +1,6 @@
 use Rattle.std.proofs.Common.{◌<◌, ◌*◌, length, fold, sym, subst, ◌∙◌, ap, arith}
-use Rattle.rh_oblig.specs.Sorts.{AreFit}
-use Rattle.rh_oblig.specs.Tree.{with_term}
+use Rattle.rh_oblig.specs.TermList.{AreFit}
+use Rattle.rh_meaning.specs.Tree.{with_term}
 use Rattle.rh_oblig.proofs.Walks.{from_fits, walk_step}
 use Rattle.rh_oblig.proofs.closing.close.Goals as goal
 

@@ -5,16 +5,17 @@ use Rattle.std.proofs.lemmas.List.{map-append}
 use Rattle.rh_term.specs.declared.obligation.Obligation.{Obligation}
 use Rattle.rh_term.specs.declared.term.Term.{Term}
 use Rattle.rh_term.specs.declared.clause.Clause.{Clause}
-use Rattle.rh_oblig.specs.declared.literal.TreeLit.{TreeLit as BuiltLit}
-use Rattle.rh_oblig.specs.declared.hypotheses.TreeClause.{TreeClause as BuiltClause}
+use Rattle.rh_meaning.specs.declared.literal.TreeLit.{TreeLit as BuiltLit}
+use Rattle.rh_meaning.specs.declared.literal.TreeClause.{TreeClause as BuiltClause}
 use Rattle.rh_oblig.specs.declared.obligation.ObligFault.TheVariants.{TooManyTerms}
 use Rattle.rh_oblig.specs.Goals.{goals as goals_of}
 use Rattle.rh_oblig.specs.Hypotheses.{hypotheses}
-use Rattle.rh_oblig.specs.Literal.{TreeLit, TreeClause}
+use Rattle.rh_meaning.specs.Literal.{TreeLit, TreeClause, clause_trees, literal_trees}
 use Rattle.rh_oblig.specs.Obligation.{IsSmall, first_excess, parts_of, terms_of}
-use Rattle.rh_oblig.specs.Sorts.{AreFewClauses, IsSorted}
-use Rattle.rh_oblig.specs.TermList.{clause_trees, literal_trees, term_list}
-use Rattle.rh_oblig.specs.View.{clauses_of, lit_of, lits_of}
+use Rattle.rh_oblig.specs.Few.{AreFewClauses}
+use Rattle.rh_meaning.specs.Sorts.{IsSorted}
+use Rattle.rh_oblig.specs.TermList.{term_list}
+use Rattle.rh_meaning.specs.View.{clauses_of, lit_of, lits_of}
 use Rattle.rh_oblig.proofs.Each.{err_is, excess_more, part_for, part_is, parts_more, sorted_at, too_many_at}
 use Rattle.rh_oblig.proofs.RuleTrees.{goals_sorted, hypotheses_sorted}
 use Rattle.rh_oblig.proofs.Sizes.{hypotheses_fit, passed}

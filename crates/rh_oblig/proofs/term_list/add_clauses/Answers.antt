@@ -1,12 +1,13 @@
 use Rattle.std.proofs.Common.{◌≡◌, ◌+◌, List, drop, get_or, sym, subst, ◌∙◌, ap}
 use Rattle.std.specs.List.{AllByRecursion, flat_map}
 use Rattle.rh_list.proofs.Appended.{apart}
-use Rattle.rh_oblig.specs.declared.literal.TreeLit.{TreeLit as BuiltLit}
-use Rattle.rh_oblig.specs.declared.hypotheses.TreeClause.{TreeClause as BuiltClause}
-use Rattle.rh_oblig.specs.Sorts.{IsSorted}
-use Rattle.rh_oblig.specs.TermList.{clause_trees, literal_trees, with_trees}
-use Rattle.rh_oblig.specs.Tree.{Tree}
-use Rattle.rh_oblig.specs.View.{clauses_of, lits_of}
+use Rattle.rh_meaning.specs.declared.literal.TreeLit.{TreeLit as BuiltLit}
+use Rattle.rh_meaning.specs.declared.literal.TreeClause.{TreeClause as BuiltClause}
+use Rattle.rh_meaning.specs.Sorts.{IsSorted}
+use Rattle.rh_meaning.specs.Literal.{clause_trees, literal_trees}
+use Rattle.rh_oblig.specs.TermList.{with_trees}
+use Rattle.rh_meaning.specs.Tree.{Tree}
+use Rattle.rh_meaning.specs.View.{clauses_of, lits_of}
 use Rattle.rh_oblig.proofs.Build.{adds_piece, clauses_cut}
 use Rattle.rh_oblig.proofs.term_list.add_clauses.Goals as goal
 

@@ -1,6 +1,5 @@
 use Rattle.std.proofs.Common.{sym, subst, ◌∙◌}
-use Rattle.rh_oblig.specs.Sorts.{AreFit}
-use Rattle.rh_oblig.specs.TermList.{leaves_of}
+use Rattle.rh_oblig.specs.TermList.{AreFit, leaves_of}
 use Rattle.rh_oblig.proofs.Build.{leaves_are_fit}
 use Rattle.rh_oblig.proofs.RuleTrees.{leaves_fit}
 use Rattle.rh_oblig.proofs.term_list.add_leaves.Goals as goal

@@ -13,13 +13,12 @@ use Rattle.rh_term.specs.Store.{select, update, is_unheld}
 use Rattle.rh_term.specs.Term.{IsTermList, HasParts}
 use Rattle.rh_term.proofs.Known.{known_at}
 use Rattle.rh_il.specs.Op.{total}
-use Rattle.rh_oblig.specs.Tree.{Tree, Leaf, Select, Update, Compute, KindOf, Unheld, place_of, tree_place}
-use Rattle.rh_oblig.specs.Literal.{TreeLit, TreeClause}
-use Rattle.rh_oblig.specs.Obligation.{lit_in, clauses_in}
-use Rattle.rh_oblig.specs.TermList.{literal_trees, clause_trees}
-use Rattle.rh_oblig.specs.Valid.{denotation, is_true_in, are_true_in}
-use Rattle.rh_oblig.proofs.Places.{place_found}
-use Rattle.rh_oblig.specs.Sorts.{IsIn, IsSorted}
+use Rattle.rh_meaning.specs.Tree.{Tree, Leaf, Select, Update, Compute, KindOf, Unheld, place_of, tree_place}
+use Rattle.rh_meaning.specs.Literal.{TreeLit, TreeClause, literal_trees, clause_trees}
+use Rattle.rh_meaning.specs.Placed.{lit_in, clauses_in}
+use Rattle.rh_meaning.specs.Denotation.{denotation, is_true_in, are_true_in}
+use Rattle.rh_meaning.proofs.Places.{place_found}
+use Rattle.rh_meaning.specs.Sorts.{IsIn, IsSorted}
 
 -- a term without parts stands for the same whatever is known of others
 leaf_denotes : (model : Model) (known : List Denotation) (term : Term) → HasParts [] term → denotation_in model known term ≡ denotation_in model [] term

@@ -3,8 +3,8 @@ use Rattle.std.specs.Prelude.{◌<◌, ◌≤◌, Bool, true, false, IsTrue, Lis
 use Rattle.std.specs.List.{AllByRecursion}
 use Rattle.rh_term.specs.declared.term.Term.{Term}
 use Rattle.rh_term.specs.Term.{is_value_term, is_store_term, HasNumber, HasParts}
-use Rattle.rh_oblig.specs.Literal.{TreeClause}
-use Rattle.rh_oblig.specs.Tree.{Tree, Leaf, Select, Update, Compute, KindOf, Unheld, place_of, tree_place}
+use Rattle.rh_meaning.specs.Literal.{TreeClause}
+use Rattle.rh_meaning.specs.Tree.{Tree, Leaf, Select, Update, Compute, KindOf, Unheld, place_of, tree_place}
 
 abbrev pub is_value_tree : Tree → Bool
 is_value_tree (Leaf term) = is_value_term term
@@ -41,12 +41,3 @@ IsIn terms (Update store address value) =
 IsIn terms (Compute op left right) = IsIn terms left × IsIn terms right × (tree_place terms (Compute op left right) < length terms)
 IsIn terms (KindOf value) = IsIn terms value × (tree_place terms (KindOf value) < length terms)
 IsIn terms (Unheld store value) = IsIn terms store × IsIn terms value × (tree_place terms (Unheld store value) < length terms)
-
--- terms whose parts stand in the list
-abbrev pub AreFit : List Term → List Term → Type 0
-AreFit terms others = AllByRecursion (HasParts terms) others
-
--- hypotheses of a rule: so few of them, and so short
-pub record AreFewClauses (clauses : List TreeClause) : Type 0 where
-  pub few : length clauses ≤ 100
-  pub short : AllByRecursion (λ (clause : TreeClause). length clause ≤ 3) clauses

@@ -1,10 +1,9 @@
 -- Terms as trees, and how they stand in a list in which each term names its parts by their places.
-use Rattle.std.specs.Prelude.{ℕ, suc, Bool, true, false, ◌==◌, ◌&&◌, List, [], ◌∷◌, ◌++◌, if◌then◌else◌, length}
-use Rattle.std.specs.Ordering.{int_eq}
+use Rattle.std.specs.Prelude.{ℕ, suc, ◌==◌, List, [], ◌∷◌, ◌++◌, if◌then◌else◌, length}
 use Rattle.rh_il.specs.declared.value.Op.{Op}
 use Rattle.rh_term.specs.declared.term.Term.{Term}
-use Rattle.rh_term.specs.declared.term.Term.TheVariants.{Num, Cst, Addr, Any, Fresh, Answer, Before, After, Start, Sel, Upd, Op as Computed, Kind, IsNum, IsPtr, Una, Yes}
-use Rattle.rh_il.specs.Op.{op_eq}
+use Rattle.rh_term.specs.declared.term.Term.TheVariants.{Sel, Upd, Op as Computed, Kind, Una}
+use Rattle.rh_term.specs.Place.{same_term}
 
 -- a term with its parts: a leaf is a term without parts
 pub data Tree : Type 0 where
@@ -15,31 +14,10 @@ pub data Tree : Type 0 where
   KindOf : (value : Tree) → Tree
   Unheld : (store value : Tree) → Tree
 
--- the two terms are one: the same head, number, sign or operator, and the same places as parts
-abbrev pub term_eq : Term → Term → Bool
-term_eq (Num a) (Num b) = int_eq a b
-term_eq (Cst a) (Cst b) = a == b
-term_eq (Addr a) (Addr b) = a == b
-term_eq Any Any = true
-term_eq Fresh Fresh = true
-term_eq Answer Answer = true
-term_eq Before Before = true
-term_eq After After = true
-term_eq Start Start = true
-term_eq (Sel s a) (Sel t b) = (s == t) && (a == b)
-term_eq (Upd s a v) (Upd t b w) = (s == t) && ((a == b) && (v == w))
-term_eq (Computed o a b) (Computed p c d) = op_eq o p && ((a == c) && (b == d))
-term_eq (Kind a) (Kind b) = a == b
-term_eq IsNum IsNum = true
-term_eq IsPtr IsPtr = true
-term_eq (Una s a) (Una t b) = (s == t) && (a == b)
-term_eq Yes Yes = true
-term_eq _ _ = false
-
 -- the place of a term in the list, or the place behind the list
 abbrev pub place_of : List Term → Term → ℕ
 place_of [] term = 0
-place_of (listed ∷ terms) term = if term_eq listed term then 0 else suc (place_of terms term)
+place_of (listed ∷ terms) term = if same_term listed term then 0 else suc (place_of terms term)
 
 -- the list, and the term behind it where it is not in it
 abbrev pub with_term : List Term → Term → List Term

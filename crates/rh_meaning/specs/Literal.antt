@@ -1,5 +1,6 @@
 -- Literals over trees, and the operands of a rule as trees.
-use Rattle.std.specs.Prelude.{ℕ, Bool, true, false, List}
+use Rattle.std.specs.Prelude.{ℕ, Bool, true, false, List, [], ◌∷◌}
+use Rattle.std.specs.List.{flat_map}
 use Rattle.rh_rule.specs.declared.rule.RuleBase.{RuleBase}
 use Rattle.rh_rule.specs.declared.rule.RuleBase.TheVariants.{Meta, Num as ANumber, Wild}
 use Rattle.rh_rule.specs.declared.schema.Kind.{Kind}
@@ -7,7 +8,7 @@ use Rattle.rh_rule.specs.declared.schema.Kind.TheVariants.{Var as AVar, Const as
 use Rattle.rh_rule.specs.declared.schema.Param.{Param}
 use Rattle.rh_rule.specs.Params.{kind_of}
 use Rattle.rh_term.specs.declared.term.Term.TheVariants.{Num, Cst, Addr, Any, IsNum, IsPtr, Yes}
-use Rattle.rh_oblig.specs.Tree.{Tree, Leaf, Select, KindOf, Unheld}
+use Rattle.rh_meaning.specs.Tree.{Tree, Leaf, Select, KindOf, Unheld}
 
 -- that two trees are equal, or that they differ
 pub record TreeLit : Type 0 where
@@ -24,6 +25,13 @@ differs left right = record { left = left; right = right; equal = false }
 -- a clause over trees
 abbrev pub TreeClause : Type 0
 TreeClause = List TreeLit
+
+-- the trees of a literal and of a clause
+abbrev pub literal_trees : TreeLit → List Tree
+literal_trees lit = lit.left ∷ lit.right ∷ []
+
+abbrev pub clause_trees : TreeClause → List Tree
+clause_trees clause = flat_map literal_trees clause
 
 abbrev pub number_tree : Tree → TreeLit
 number_tree tree = equals (KindOf tree) (Leaf IsNum)

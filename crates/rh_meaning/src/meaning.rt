@@ -1,7 +1,7 @@
 //! Meanings of facts as literals over a store.
 ghost use Rattle.std.specs.Prelude.{◌≡◌, IfOk, map};
-ghost use Rattle.rh_oblig.specs.Meaning.{address_at, arg_at, atom_literal, fact_literals, meaning_operand, meaning_tree};
-ghost use Rattle.rh_oblig.specs.View.{tree_of, lit_of, lits_of};
+ghost use Rattle.rh_meaning.specs.Meaning.{address_at, arg_at, atom_literal, fact_literals, meaning_operand, meaning_tree};
+ghost use Rattle.rh_meaning.specs.View.{tree_of, lit_of, lits_of};
 
 use crate::literal::{TreeLit, differs, equals, is_number, is_pointer, is_unheld, operand};
 use crate::tree::{Tree, compute, select};
@@ -10,7 +10,7 @@ use rh_term::Term;
 use std::alloc::{AllocError, Global};
 
 /// The literals of a fact's atoms over a store, in their order.
-pub(crate) fn fact_literals(
+pub fn fact_literals(
     alloc: Global,
     schemas: &[Schema],
     params: &[Param],

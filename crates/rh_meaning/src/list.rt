@@ -1,8 +1,8 @@
 //! Trees in a list of terms.
 ghost use Rattle.std.specs.Prelude.{◌≡◌, ◌<◌, length, OnOk, OnErr};
-ghost use Rattle.rh_oblig.specs.Sorts.{IsIn, IsSorted};
-ghost use Rattle.rh_oblig.specs.Tree.{place_of, tree_place, with_term, with_tree};
-ghost use Rattle.rh_oblig.specs.View.{tree_of};
+ghost use Rattle.rh_meaning.specs.Sorts.{IsIn, IsSorted};
+ghost use Rattle.rh_meaning.specs.Tree.{place_of, tree_place, with_term, with_tree};
+ghost use Rattle.rh_meaning.specs.View.{tree_of};
 ghost use Rattle.rh_term.specs.Term.{HasParts, IsTermList};
 
 use crate::tree::Tree;
@@ -10,7 +10,7 @@ use rh_term::{Term, Terms};
 use std::alloc::AllocError;
 
 /// Puts what is not in the list of a tree behind it, each term after its parts.
-pub(crate) fn add_tree(terms: &mut Terms, tree: &Tree) -> Result<(), AllocError>
+pub fn add_tree(terms: &mut Terms, tree: &Tree) -> Result<(), AllocError>
     requires { IsSorted (tree_of tree.now) }
     ensures { OnOk result (terms.new ≡ with_tree terms.old (tree_of tree.now)) }
 {
@@ -59,7 +59,7 @@ pub(crate) fn add_tree(terms: &mut Terms, tree: &Tree) -> Result<(), AllocError>
 }
 
 /// The place of a tree that stands in the list.
-pub(crate) fn tree_place(terms: &Terms, tree: &Tree) -> u32
+pub fn tree_place(terms: &Terms, tree: &Tree) -> u32
     requires { IsIn terms.now (tree_of tree.now) }
     ensures { result ≡ tree_place terms.now (tree_of tree.now) }
 {
@@ -98,7 +98,7 @@ fn place_of(terms: &Terms, term: Term) -> u32
 }
 
 /// Puts a term behind the list where it is not in it. A list of nearly 2^32 terms has no room.
-pub(crate) fn add(terms: &mut Terms, term: Term) -> Result<(), AllocError>
+pub fn add(terms: &mut Terms, term: Term) -> Result<(), AllocError>
     requires { HasParts terms.old term }
     ensures { OnOk result (terms.new ≡ with_term terms.old term) }
 {

@@ -8,9 +8,11 @@ use Rattle.rh_term.specs.declared.term.Term.{Term}
 use Rattle.rh_term.specs.declared.term.Term.TheVariants.{Num, Cst, Addr, Any, Fresh, Answer, Before, After, Start, Sel, Upd, Op as Computed, Kind, IsNum, IsPtr, Una, Yes}
 use Rattle.rh_term.specs.Term.{is_value_term, is_store_term, is_at, is_value_at, is_store_at, HasParts, IsTermList, IsAdded}
 use Rattle.rh_term.proofs.Listed.{grown}
-use Rattle.rh_oblig.specs.Sorts.{IsIn, is_value_tree, is_store_tree}
-use Rattle.rh_oblig.specs.Tree.{Tree, Leaf, Select, Update, Compute, KindOf, Unheld, term_eq, place_of, tree_place, with_term}
-use Rattle.rh_oblig.proofs.Places.{Extends, place_found, place_most, term_eq-refl}
+use Rattle.rh_meaning.specs.Sorts.{IsIn, is_value_tree, is_store_tree}
+use Rattle.rh_meaning.specs.Tree.{Tree, Leaf, Select, Update, Compute, KindOf, Unheld, place_of, tree_place, with_term}
+use Rattle.rh_term.specs.Place.{same_term}
+use Rattle.rh_meaning.proofs.Places.{Extends, place_found, place_most}
+use Rattle.rh_term.proofs.Placed.{same_term-refl}
 
 -- what a tree in a list is the head of stands at its place
 pub at_place : (test : Term → Bool) (terms : List Term) (place : ℕ) (term : Term) → slice_get terms place ≡ Some term → test term ≡ true → is_at test terms place ≡ true
@@ -65,9 +67,9 @@ step_first false p n listed term same stands e = let listed_is : listed ≡ term
 pub absent : (terms : List Term) (term : Term) → place_of terms term ≡ length terms → (place : ℕ) → slice_get terms place ≡ Some term → ⊥
 absent [] term e place stands = cc
 absent (listed ∷ terms) term e zero stands =
-    step_first (term_eq listed term) (place_of terms term) (length terms) listed term (λ same. subst (λ (t : Term). term_eq listed t ≡ true) same (term_eq-refl listed)) stands e
+    step_first (same_term listed term) (place_of terms term) (length terms) listed term (λ same. subst (λ (t : Term). same_term listed t ≡ true) same (same_term-refl listed)) stands e
 absent (listed ∷ terms) term e (suc place) stands =
-    step_absent (term_eq listed term) (place_of terms term) terms listed term place (λ same. subst (λ (t : Term). term_eq listed t ≡ true) same (term_eq-refl listed))
+    step_absent (same_term listed term) (place_of terms term) terms listed term place (λ same. subst (λ (t : Term). same_term listed t ≡ true) same (same_term-refl listed))
     (λ s p. absent terms term p place s) stands e
 
 -- ---- parts that stand in a list stand in a longer one

@@ -1,8 +1,8 @@
 //! Literals over trees, and the operands of a rule as trees.
 ghost use Rattle.std.specs.Prelude.{◌≡◌, IfOk, true, false};
-ghost use Rattle.rh_oblig.specs.Tree.{Leaf};
-ghost use Rattle.rh_oblig.specs.Literal.{binding_tree, differs, equals, number_tree, operand, pointer_tree, unheld_tree, value_tree};
-ghost use Rattle.rh_oblig.specs.View.{tree_of, lit_of};
+ghost use Rattle.rh_meaning.specs.Tree.{Leaf};
+ghost use Rattle.rh_meaning.specs.Literal.{binding_tree, differs, equals, number_tree, operand, pointer_tree, unheld_tree, value_tree};
+ghost use Rattle.rh_meaning.specs.View.{tree_of, lit_of};
 ghost use Rattle.rh_rule.specs.Params.{kind_of};
 
 use crate::tree::{Tree, kind_of_tree, select, unheld};
@@ -12,13 +12,19 @@ use std::alloc::{AllocError, Global};
 
 /// That two trees are equal, or that they differ.
 #[derive(Drop)]
-pub(crate) struct TreeLit {
-    pub(crate) left: Tree,
-    pub(crate) right: Tree,
-    pub(crate) equal: bool,
+pub struct TreeLit {
+    pub left: Tree,
+    pub right: Tree,
+    pub equal: bool,
 }
 
-pub(crate) fn equals(left: Tree, right: Tree) -> TreeLit
+/// A clause over trees.
+#[derive(Drop)]
+pub struct TreeClause {
+    pub lits: Vec<TreeLit>,
+}
+
+pub fn equals(left: Tree, right: Tree) -> TreeLit
     ensures { lit_of result ≡ equals (tree_of left) (tree_of right) }
 {
     TreeLit {
@@ -28,7 +34,7 @@ pub(crate) fn equals(left: Tree, right: Tree) -> TreeLit
     }
 }
 
-pub(crate) fn differs(left: Tree, right: Tree) -> TreeLit
+pub fn differs(left: Tree, right: Tree) -> TreeLit
     ensures { lit_of result ≡ differs (tree_of left) (tree_of right) }
 {
     TreeLit {
@@ -39,28 +45,28 @@ pub(crate) fn differs(left: Tree, right: Tree) -> TreeLit
 }
 
 /// That the value is a number.
-pub(crate) fn is_number(alloc: Global, value: Tree) -> Result<TreeLit, AllocError>
+pub fn is_number(alloc: Global, value: Tree) -> Result<TreeLit, AllocError>
     ensures { IfOk result (λ lit. lit_of lit ≡ number_tree (tree_of value)) }
 {
     Ok(equals(kind_of_tree(alloc, value)?, Tree::Leaf(Term::IsNum)))
 }
 
 /// That the value is a pointer.
-pub(crate) fn is_pointer(alloc: Global, value: Tree) -> Result<TreeLit, AllocError>
+pub fn is_pointer(alloc: Global, value: Tree) -> Result<TreeLit, AllocError>
     ensures { IfOk result (λ lit. lit_of lit ≡ pointer_tree (tree_of value)) }
 {
     Ok(equals(kind_of_tree(alloc, value)?, Tree::Leaf(Term::IsPtr)))
 }
 
 /// That no cell of the store holds the value.
-pub(crate) fn is_unheld(alloc: Global, store: Tree, value: Tree) -> Result<TreeLit, AllocError>
+pub fn is_unheld(alloc: Global, store: Tree, value: Tree) -> Result<TreeLit, AllocError>
     ensures { IfOk result (λ lit. lit_of lit ≡ unheld_tree (tree_of store) (tree_of value)) }
 {
     Ok(equals(unheld(alloc, store, value)?, Tree::Leaf(Term::Yes)))
 }
 
 /// The kind of a metavariable.
-pub(crate) fn kind_of(params: &[Param], meta: u32) -> Kind
+pub fn kind_of(params: &[Param], meta: u32) -> Kind
     ensures { result ≡ kind_of params.now meta }
 {
     match params.get(meta as usize) {
@@ -70,7 +76,7 @@ pub(crate) fn kind_of(params: &[Param], meta: u32) -> Kind
 }
 
 /// What a metavariable is bound to: the address of a variable, or a number.
-pub(crate) fn binding_tree(params: &[Param], meta: u32) -> Tree
+pub fn binding_tree(params: &[Param], meta: u32) -> Tree
     ensures { tree_of result ≡ binding_tree meta (kind_of params.now meta) }
 {
     match kind_of(params, meta) {
@@ -80,7 +86,7 @@ pub(crate) fn binding_tree(params: &[Param], meta: u32) -> Tree
 }
 
 /// The value of an operand over a store.
-pub(crate) fn operand(
+pub fn operand(
     alloc: Global,
     params: &[Param],
     store: &Tree,

@@ -1,8 +1,8 @@
 use Rattle.std.proofs.Common.{◌≡◌, true, rules}
-use Rattle.rh_oblig.specs.Sorts.{is_value_tree, is_store_tree}
-use Rattle.rh_oblig.specs.View.{tree_of}
-use Rattle.rh_oblig.proofs.Added.{last_in, before_in, first_in, store_part, value_part}
-use Rattle.rh_oblig.proofs.list.+add_tree.Goals as goal
+use Rattle.rh_meaning.specs.Sorts.{is_value_tree, is_store_tree}
+use Rattle.rh_meaning.specs.View.{tree_of}
+use Rattle.rh_meaning.proofs.Added.{last_in, before_in, first_in, store_part, value_part}
+use Rattle.rh_meaning.proofs.list.+add_tree.Goals as goal
 
 pub tree_place-requires : goal.tree_place-requires
 tree_place-requires t c = before_in _ _ _ (tree_of c.deref-store.result.now) (tree_of c.deref-address.result.now) c.in_ok-add_tree-in-Select.ensures c.in_ok-add_tree-in-Select-2.ensures

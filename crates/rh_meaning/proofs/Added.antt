@@ -2,10 +2,10 @@
 use Rattle.std.proofs.Common.{ℕ, ◌≡◌, true, List, sym, subst, ◌∙◌, ap}
 use Rattle.rh_term.specs.declared.term.Term.{Term}
 use Rattle.rh_term.specs.Term.{is_value_at, is_store_at}
-use Rattle.rh_oblig.specs.Sorts.{IsIn, is_value_tree, is_store_tree}
-use Rattle.rh_oblig.specs.Tree.{Tree, tree_place, with_tree}
-use Rattle.rh_oblig.proofs.Trees.{stays_in, with_tree_has}
-use Rattle.rh_oblig.proofs.Sorted.{value_at_place, store_at_place}
+use Rattle.rh_meaning.specs.Sorts.{IsIn, is_value_tree, is_store_tree}
+use Rattle.rh_meaning.specs.Tree.{Tree, tree_place, with_tree}
+use Rattle.rh_meaning.proofs.Trees.{stays_in, with_tree_has}
+use Rattle.rh_meaning.proofs.Sorted.{value_at_place, store_at_place}
 
 pub last_in : (old new : List Term) (tree : Tree) → new ≡ with_tree old tree → IsIn new tree
 last_in old new tree is = subst (λ (terms : List Term). IsIn terms tree) (sym is) (with_tree_has old tree).is_in

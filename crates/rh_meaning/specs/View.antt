@@ -1,10 +1,10 @@
 -- The trees and literals of the code as trees and literals.
 use Rattle.std.specs.Prelude.{List, map}
-use Rattle.rh_oblig.specs.declared.literal.TreeLit.{TreeLit as BuiltLit}
-use Rattle.rh_oblig.specs.declared.hypotheses.TreeClause.{TreeClause as BuiltClause}
-use Rattle.rh_oblig.specs.Literal.{TreeLit, TreeClause}
-use Rattle.rh_oblig.specs.declared.tree.Tree.{Tree as Built, Leaf as Leaf', Select', Update', Compute', KindOf', Unheld'}
-use Rattle.rh_oblig.specs.Tree.{Tree, Leaf, Select, Update, Compute, KindOf, Unheld}
+use Rattle.rh_meaning.specs.declared.literal.TreeLit.{TreeLit as BuiltLit}
+use Rattle.rh_meaning.specs.declared.literal.TreeClause.{TreeClause as BuiltClause}
+use Rattle.rh_meaning.specs.Literal.{TreeLit, TreeClause}
+use Rattle.rh_meaning.specs.declared.tree.Tree.{Tree as Built, Leaf as Leaf', Select', Update', Compute', KindOf', Unheld'}
+use Rattle.rh_meaning.specs.Tree.{Tree, Leaf, Select, Update, Compute, KindOf, Unheld}
 
 abbrev pub tree_of : Built → Tree
 tree_of (Leaf' term) = Leaf term

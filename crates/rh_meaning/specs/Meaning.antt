@@ -12,8 +12,8 @@ use Rattle.rh_rule.specs.declared.schema.MeaningTerm.TheVariants.{Plain, Address
 use Rattle.rh_rule.specs.declared.schema.Param.{Param}
 use Rattle.rh_rule.specs.declared.schema.Schema.{Schema}
 use Rattle.rh_term.specs.declared.term.Term.TheVariants.{Num, Addr}
-use Rattle.rh_oblig.specs.Tree.{Tree, Leaf, Select, Compute}
-use Rattle.rh_oblig.specs.Literal.{TreeLit, equals, differs, number_tree, pointer_tree, unheld_tree, operand}
+use Rattle.rh_meaning.specs.Tree.{Tree, Leaf, Select, Compute}
+use Rattle.rh_meaning.specs.Literal.{TreeLit, equals, differs, number_tree, pointer_tree, unheld_tree, operand}
 
 -- the argument in the place of a parameter
 abbrev pub arg_at : List RuleBase → ℕ → RuleBase

@@ -1,7 +1,7 @@
 //! Terms as trees.
 ghost use Rattle.std.specs.Prelude.{◌≡◌, IfOk};
-ghost use Rattle.rh_oblig.specs.Tree.{Leaf, Select, Update, Compute, KindOf, Unheld};
-ghost use Rattle.rh_oblig.specs.View.{tree_of};
+ghost use Rattle.rh_meaning.specs.Tree.{Leaf, Select, Update, Compute, KindOf, Unheld};
+ghost use Rattle.rh_meaning.specs.View.{tree_of};
 
 use rh_il::Op;
 use rh_term::Term;
@@ -9,7 +9,7 @@ use std::alloc::{AllocError, Global};
 
 /// A term with its parts.
 #[derive(Drop)]
-pub(crate) enum Tree {
+pub enum Tree {
     /// A term without parts.
     Leaf(Term),
     /// What a store holds at an address.
@@ -24,18 +24,13 @@ pub(crate) enum Tree {
     Unheld(Box<Tree>, Box<Tree>),
 }
 
-pub(crate) fn select(alloc: Global, store: Tree, address: Tree) -> Result<Tree, AllocError>
+pub fn select(alloc: Global, store: Tree, address: Tree) -> Result<Tree, AllocError>
     ensures { IfOk result (λ tree. tree_of tree ≡ Select (tree_of store) (tree_of address)) }
 {
     Ok(Tree::Select(Box::new(alloc, store)?, Box::new(alloc, address)?))
 }
 
-pub(crate) fn update(
-    alloc: Global,
-    store: Tree,
-    address: Tree,
-    value: Tree,
-) -> Result<Tree, AllocError>
+pub fn update(alloc: Global, store: Tree, address: Tree, value: Tree) -> Result<Tree, AllocError>
     ensures { IfOk result (λ tree. tree_of tree ≡ Update (tree_of store) (tree_of address) (tree_of value)) }
 {
     Ok(Tree::Update(
@@ -45,7 +40,7 @@ pub(crate) fn update(
     ))
 }
 
-pub(crate) fn compute(alloc: Global, op: Op, left: Tree, right: Tree) -> Result<Tree, AllocError>
+pub fn compute(alloc: Global, op: Op, left: Tree, right: Tree) -> Result<Tree, AllocError>
     ensures { IfOk result (λ tree. tree_of tree ≡ Compute op (tree_of left) (tree_of right)) }
 {
     Ok(Tree::Compute(op, Box::new(alloc, left)?, Box::new(alloc, right)?))
@@ -57,14 +52,14 @@ pub(crate) fn kind_of_tree(alloc: Global, value: Tree) -> Result<Tree, AllocErro
     Ok(Tree::KindOf(Box::new(alloc, value)?))
 }
 
-pub(crate) fn unheld(alloc: Global, store: Tree, value: Tree) -> Result<Tree, AllocError>
+pub fn unheld(alloc: Global, store: Tree, value: Tree) -> Result<Tree, AllocError>
     ensures { IfOk result (λ tree. tree_of tree ≡ Unheld (tree_of store) (tree_of value)) }
 {
     Ok(Tree::Unheld(Box::new(alloc, store)?, Box::new(alloc, value)?))
 }
 
 impl Tree {
-    pub(crate) fn copy(&self, alloc: Global) -> Result<Tree, AllocError>
+    pub fn copy(&self, alloc: Global) -> Result<Tree, AllocError>
         ensures { IfOk result (λ copy. tree_of copy ≡ tree_of self.now) }
     {
         match self {

@@ -1,5 +1,5 @@
-use Rattle.rh_oblig.proofs.Places.{place_found}
-use Rattle.rh_oblig.proofs.list.place_of.Goals as goal
+use Rattle.rh_meaning.proofs.Places.{place_found}
+use Rattle.rh_meaning.proofs.list.place_of.Goals as goal
 
 pub unreachable-requires : goal.unreachable-requires
 unreachable-requires c = c.in-None.ensures.missing _ (place_found c.args.terms.now c.args.term c.requires)

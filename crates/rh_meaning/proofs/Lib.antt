@@ -1,0 +1,5 @@
+pub mod Places
+pub mod Trees
+pub mod Sorted
+pub mod Added
+pub mod Denotes
