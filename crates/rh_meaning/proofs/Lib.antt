@@ -3,3 +3,4 @@ pub mod Trees
 pub mod Sorted
 pub mod Added
 pub mod Denotes
+pub mod NotHeld

@@ -5,3 +5,4 @@ pub mod View
 pub mod Sorts
 pub mod Placed
 pub mod Denotation
+pub mod Holds
