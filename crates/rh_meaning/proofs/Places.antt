@@ -1,5 +1,5 @@
 -- Places of terms in lists that grow at their ends.
-use Rattle.std.proofs.Common.{suc, ℕ, ◌≡◌, ◌<◌, ◌≤◌, Bool, true, false, ◌==◌, if◌then◌else◌, List, [], ◌∷◌, ◌++◌, length, Some, refl, ap, sym, subst, ◌∙◌, arith, append_assoc, append-nil}
+use Rattle.std.proofs.Common.{suc, ℕ, ◌+◌, length-append, ◌≡◌, ◌<◌, ◌≤◌, Bool, true, false, ◌==◌, if◌then◌else◌, List, [], ◌∷◌, ◌++◌, length, Some, refl, ap, sym, subst, ◌∙◌, arith, append_assoc, append-nil}
 use Rattle.std.specs.Prelude.{slice_get}
 use Rattle.std.proofs.lemmas.Bool.{eqb-false}
 use Rattle.rh_term.specs.declared.term.Term.{Term}
@@ -62,6 +62,13 @@ with_cases : (test : Bool) (terms : List Term) (term : Term) → (test ≡ false
     × (place_of (if test then terms ++ term ∷ [] else terms) term < length (if test then terms ++ term ∷ [] else terms))
 with_cases true terms term there = (record { more = term ∷ []; is = refl }, place_last terms term)
 with_cases false terms term there = (extends_itself terms, there refl)
+
+few_cases : (test : Bool) (terms : List Term) (term : Term) → length (if test then terms ++ term ∷ [] else terms) ≤ length terms + 1
+few_cases true terms term = omega (arith, length-append terms (term ∷ []))
+few_cases false terms term = omega arith
+
+pub with_term_few : (terms : List Term) (term : Term) → length (with_term terms term) ≤ length terms + 1
+with_term_few terms term = few_cases (place_of terms term == length terms) terms term
 
 pub with_term_has : (terms : List Term) (term : Term) → Extends terms (with_term terms term) × (place_of (with_term terms term) term < length (with_term terms term))
 with_term_has terms term = with_cases (place_of terms term == length terms) terms term

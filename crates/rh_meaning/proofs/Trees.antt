@@ -1,11 +1,11 @@
 -- Trees in lists of terms.
-use Rattle.std.proofs.Common.{◌≡◌, ◌<◌, ◌≤◌, List, ◌++◌, length, refl, ap, sym, subst, ◌∙◌, arith}
+use Rattle.std.proofs.Common.{◌≡◌, ◌+◌, ◌<◌, ◌≤◌, List, ◌++◌, length, refl, ap, sym, subst, ◌∙◌, arith}
 use Rattle.std.proofs.lemmas.List.{length-append}
 use Rattle.rh_term.specs.declared.term.Term.{Term}
 use Rattle.rh_term.specs.declared.term.Term.TheVariants.{Sel, Upd, Op as Computed, Kind, Una}
-use Rattle.rh_meaning.specs.Sorts.{IsIn}
+use Rattle.rh_meaning.specs.Sorts.{IsIn, tree_size}
 use Rattle.rh_meaning.specs.Tree.{Tree, Leaf, Select, Update, Compute, KindOf, Unheld, place_of, tree_place, with_term, with_tree}
-use Rattle.rh_meaning.proofs.Places.{Extends, extends_further, place_longer, with_term_has}
+use Rattle.rh_meaning.proofs.Places.{Extends, extends_further, place_longer, with_term_few, with_term_has}
 
 -- a tree keeps its place where the list grows
 pub place_stays : (terms more : List Term) (tree : Tree) → IsIn terms tree → tree_place (terms ++ more) tree ≡ tree_place terms tree
@@ -145,3 +145,33 @@ with_tree_has terms (Unheld store value) =
       grown = extends_further first.grown (extends_further second.grown last);
       is_in = (stays_in parts new store last store_in, stays_in parts new value last second.is_in, head_place parts new term _ refl (ap (λ s. Una s (tree_place new value)) one ∙ ap (Una (tree_place parts store)) two));
     }
+
+-- and has at most the terms of the tree more
+pub with_tree_few : (terms : List Term) (tree : Tree) → length (with_tree terms tree) ≤ length terms + tree_size tree
+with_tree_few terms (Leaf term) = with_term_few terms term
+with_tree_few terms (Select store address) =
+    let stored : List Term = with_tree terms store in
+    let parts : List Term = with_tree stored address in
+    omega (arith, with_tree_few terms store, with_tree_few stored address, with_term_few parts (Sel (tree_place parts store) (tree_place parts address)))
+with_tree_few terms (Update store address value) =
+    let stored : List Term = with_tree terms store in
+    let addressed : List Term = with_tree stored address in
+    let parts : List Term = with_tree addressed value in
+    omega (
+      arith,
+      with_tree_few terms store,
+      with_tree_few stored address,
+      with_tree_few addressed value,
+      with_term_few parts (Upd (tree_place parts store) (tree_place parts address) (tree_place parts value)),
+    )
+with_tree_few terms (Compute op left right) =
+    let lefts : List Term = with_tree terms left in
+    let parts : List Term = with_tree lefts right in
+    omega (arith, with_tree_few terms left, with_tree_few lefts right, with_term_few parts (Computed op (tree_place parts left) (tree_place parts right)))
+with_tree_few terms (KindOf value) =
+    let parts : List Term = with_tree terms value in
+    omega (arith, with_tree_few terms value, with_term_few parts (Kind (tree_place parts value)))
+with_tree_few terms (Unheld store value) =
+    let stored : List Term = with_tree terms store in
+    let parts : List Term = with_tree stored value in
+    omega (arith, with_tree_few terms store, with_tree_few stored value, with_term_few parts (Una (tree_place parts store) (tree_place parts value)))

@@ -1,9 +1,7 @@
 -- Trees of the right sorts, and trees that stand in a list.
-use Rattle.std.specs.Prelude.{◌<◌, ◌≤◌, Bool, true, false, IsTrue, List, [], length}
-use Rattle.std.specs.List.{AllByRecursion}
+use Rattle.std.specs.Prelude.{ℕ, ◌+◌, ◌<◌, Bool, true, false, IsTrue, List, [], length}
 use Rattle.rh_term.specs.declared.term.Term.{Term}
 use Rattle.rh_term.specs.Term.{is_value_term, is_store_term, HasNumber, HasParts}
-use Rattle.rh_meaning.specs.Literal.{TreeClause}
 use Rattle.rh_meaning.specs.Tree.{Tree, Leaf, Select, Update, Compute, KindOf, Unheld, place_of, tree_place}
 
 abbrev pub is_value_tree : Tree → Bool
@@ -31,6 +29,15 @@ IsSorted (Update store address value) =
 IsSorted (Compute op left right) = IsSorted left × IsSorted right × IsTrue (is_value_tree left) × IsTrue (is_value_tree right)
 IsSorted (KindOf value) = IsSorted value × IsTrue (is_value_tree value)
 IsSorted (Unheld store value) = IsSorted store × IsSorted value × IsTrue (is_store_tree store) × IsTrue (is_value_tree value)
+
+-- how many terms a tree has at most: its own, and those of its parts
+abbrev pub tree_size : Tree → ℕ
+tree_size (Leaf term) = 1
+tree_size (Select store address) = tree_size store + tree_size address + 1
+tree_size (Update store address value) = tree_size store + tree_size address + tree_size value + 1
+tree_size (Compute op left right) = tree_size left + tree_size right + 1
+tree_size (KindOf value) = tree_size value + 1
+tree_size (Unheld store value) = tree_size store + tree_size value + 1
 
 -- the tree and its parts stand in the list
 abbrev pub IsIn : List Term → Tree → Type 0

@@ -1,6 +1,6 @@
 //! Trees in a list of terms.
-ghost use Rattle.std.specs.Prelude.{◌≡◌, ◌<◌, length, OnOk, OnErr};
-ghost use Rattle.rh_meaning.specs.Sorts.{IsIn, IsSorted};
+ghost use Rattle.std.specs.Prelude.{◌≡◌, ◌<◌, ◌≤◌, ◌+◌, ◌^◌, length, OnOk};
+ghost use Rattle.rh_meaning.specs.Sorts.{IsIn, IsSorted, tree_size};
 ghost use Rattle.rh_meaning.specs.Tree.{place_of, tree_place, with_term, with_tree};
 ghost use Rattle.rh_meaning.specs.View.{tree_of};
 ghost use Rattle.rh_term.specs.Term.{HasParts, IsTermList};
@@ -11,8 +11,10 @@ use std::alloc::AllocError;
 
 /// Puts what is not in the list of a tree behind it, each term after its parts.
 pub fn add_tree(terms: &mut Terms, tree: &Tree) -> Result<(), AllocError>
-    requires { IsSorted (tree_of tree.now) }
-    ensures { OnOk result (terms.new ≡ with_tree terms.old (tree_of tree.now)) }
+    requires sorted { IsSorted (tree_of tree.now) }
+    requires room { length terms.old + tree_size (tree_of tree.now) < 2 ^ 32 }
+    ensures added { OnOk result (terms.new ≡ with_tree terms.old (tree_of tree.now)) }
+    ensures few { OnOk result (length terms.new ≤ length terms.old + tree_size (tree_of tree.now)) }
 {
     match tree {
         Tree::Leaf(term) => add(terms, *term),
@@ -97,14 +99,13 @@ fn place_of(terms: &Terms, term: Term) -> u32
     }
 }
 
-/// Puts a term behind the list where it is not in it. A list of nearly 2^32 terms has no room.
+/// Puts a term behind the list where it is not in it.
 pub fn add(terms: &mut Terms, term: Term) -> Result<(), AllocError>
-    requires { HasParts terms.old term }
-    ensures { OnOk result (terms.new ≡ with_term terms.old term) }
+    requires parts { HasParts terms.old term }
+    requires room { length terms.old + 1 < 2 ^ 32 }
+    ensures added { OnOk result (terms.new ≡ with_term terms.old term) }
+    ensures few { OnOk result (length terms.new ≤ length terms.old + 1) }
 {
-    if terms.len() >= u32::MAX - 1 {
-        return Err(AllocError);
-    }
     terms.add(term)?;
     is_term_list(terms);
     Ok(())

@@ -9,3 +9,5 @@ pub mod Build
 pub mod Each
 pub mod Fits
 pub mod Sizes
+pub mod TreeSizes
+pub mod Room

@@ -33,7 +33,6 @@ use Rattle.rh_rule.specs.Operands.{operands, term_operands}
 use Rattle.rh_rule.specs.Params.{kind_of}
 use Rattle.rh_rule.specs.Ranges.{AtomNumbersFit, ConclusionNumbersFit, FitsI64, MeaningNumberFits, NumberFits, NumbersFit, RuleNumbersFit, SchemaNumbersFit, SideNumbersFit, TermNumbersFit, UseNumbersFit}
 use Rattle.rh_term.specs.declared.term.Term.{Term}
-use Rattle.rh_term.specs.Term.{HasParts}
 use Rattle.rh_term.specs.declared.term.Term.TheVariants.{Num, Any, Fresh, Answer, After, Start, Yes, IsNum, IsPtr}
 use Rattle.rh_oblig.specs.Goals.{goals, conclusion_goals, template_goals}
 use Rattle.rh_oblig.specs.Hypotheses.{call_clauses_of, conclusion_clauses, entry_clauses, hypotheses, local_clause, new_clauses, own_clauses, side_literal, side_operand, side_tree, slot_literals, units, var_metas}
