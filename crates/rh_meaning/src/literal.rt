@@ -13,17 +13,22 @@ use std::alloc::{AllocError, Global};
 /// That two trees are equal, or that they differ.
 #[derive(Drop)]
 pub struct TreeLit {
+    /// The left tree.
     pub left: Tree,
+    /// The right tree.
     pub right: Tree,
+    /// Whether the literal is an equation.
     pub equal: bool,
 }
 
 /// A clause over trees.
 #[derive(Drop)]
 pub struct TreeClause {
+    /// The literals, from left to right.
     pub lits: Vec<TreeLit>,
 }
 
+/// That the trees are equal.
 pub fn equals(left: Tree, right: Tree) -> TreeLit
     ensures { lit_of result ≡ equals (tree_of left) (tree_of right) }
 {
@@ -34,6 +39,7 @@ pub fn equals(left: Tree, right: Tree) -> TreeLit
     }
 }
 
+/// That the trees differ.
 pub fn differs(left: Tree, right: Tree) -> TreeLit
     ensures { lit_of result ≡ differs (tree_of left) (tree_of right) }
 {

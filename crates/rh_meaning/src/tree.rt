@@ -24,12 +24,14 @@ pub enum Tree {
     Unheld(Box<Tree>, Box<Tree>),
 }
 
+/// What a store holds at an address.
 pub fn select(alloc: Global, store: Tree, address: Tree) -> Result<Tree, AllocError>
     ensures { IfOk result (λ tree. tree_of tree ≡ Select (tree_of store) (tree_of address)) }
 {
     Ok(Tree::Select(Box::new(alloc, store)?, Box::new(alloc, address)?))
 }
 
+/// A store with a value written at an address.
 pub fn update(alloc: Global, store: Tree, address: Tree, value: Tree) -> Result<Tree, AllocError>
     ensures { IfOk result (λ tree. tree_of tree ≡ Update (tree_of store) (tree_of address) (tree_of value)) }
 {
@@ -40,18 +42,21 @@ pub fn update(alloc: Global, store: Tree, address: Tree, value: Tree) -> Result<
     ))
 }
 
+/// An operator between two values.
 pub fn compute(alloc: Global, op: Op, left: Tree, right: Tree) -> Result<Tree, AllocError>
     ensures { IfOk result (λ tree. tree_of tree ≡ Compute op (tree_of left) (tree_of right)) }
 {
     Ok(Tree::Compute(op, Box::new(alloc, left)?, Box::new(alloc, right)?))
 }
 
+/// Whether a value is a number or a pointer.
 pub(crate) fn kind_of_tree(alloc: Global, value: Tree) -> Result<Tree, AllocError>
     ensures { IfOk result (λ tree. tree_of tree ≡ KindOf (tree_of value)) }
 {
     Ok(Tree::KindOf(Box::new(alloc, value)?))
 }
 
+/// Whether no cell of a store holds a value.
 pub fn unheld(alloc: Global, store: Tree, value: Tree) -> Result<Tree, AllocError>
     ensures { IfOk result (λ tree. tree_of tree ≡ Unheld (tree_of store) (tree_of value)) }
 {
@@ -59,6 +64,7 @@ pub fn unheld(alloc: Global, store: Tree, value: Tree) -> Result<Tree, AllocErro
 }
 
 impl Tree {
+    /// The same tree once more.
     pub fn copy(&self, alloc: Global) -> Result<Tree, AllocError>
         ensures { IfOk result (λ copy. tree_of copy ≡ tree_of self.now) }
     {

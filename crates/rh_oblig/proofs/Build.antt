@@ -10,15 +10,15 @@ use Rattle.rh_meaning.specs.Placed.{clause_in, clauses_in}
 use Rattle.rh_term.specs.declared.term.Term.{Term}
 use Rattle.rh_meaning.specs.declared.literal.TreeLit.{TreeLit as BuiltLit}
 use Rattle.rh_meaning.specs.declared.literal.TreeClause.{TreeClause as BuiltClause}
-use Rattle.rh_oblig.specs.TermList.{AreFit, with_trees}
-use Rattle.rh_oblig.specs.Few.{trees_size}
 use Rattle.rh_meaning.proofs.Trees.{with_tree_few}
 use Rattle.rh_meaning.specs.Sorts.{IsSorted, tree_size}
 use Rattle.rh_meaning.specs.Literal.{clause_trees, literal_trees}
 use Rattle.rh_meaning.specs.Tree.{Tree, Leaf, with_term, with_tree}
 use Rattle.rh_meaning.specs.View.{clauses_of, lit_of, lits_of}
-use Rattle.rh_oblig.proofs.RuleTrees.{IsSortedLeaf}
 use Rattle.rh_meaning.proofs.Sorted.{leaf_parts}
+use Rattle.rh_oblig.specs.TermList.{AreFit, with_trees}
+use Rattle.rh_oblig.specs.Few.{trees_size}
+use Rattle.rh_oblig.proofs.RuleTrees.{IsSortedLeaf}
 
 pub with_trees_both : (terms : List Term) (a b : List Tree) → with_trees terms (a ++ b) ≡ with_trees (with_trees terms a) b
 with_trees_both terms [] b = refl

@@ -14,11 +14,11 @@ use Rattle.rh_rule.specs.declared.schema.Schema.{Schema}
 use Rattle.rh_term.specs.declared.term.Term.{Term}
 use Rattle.rh_term.specs.declared.clause.Clause.{Clause}
 use Rattle.rh_meaning.specs.declared.literal.TreeLit.{TreeLit as BuiltLit}
-use Rattle.rh_oblig.specs.Hypotheses.{hypotheses}
 use Rattle.rh_meaning.specs.Literal.{TreeLit, TreeClause}
+use Rattle.rh_meaning.specs.View.{lit_of, lits_of}
+use Rattle.rh_oblig.specs.Hypotheses.{hypotheses}
 use Rattle.rh_oblig.specs.Obligation.{clauses_for, first_excess, obligation_clauses, terms_of}
 use Rattle.rh_oblig.specs.TermList.{term_list}
-use Rattle.rh_meaning.specs.View.{lit_of, lits_of}
 
 -- the obligation of a goal
 abbrev pub part_for : List Schema → Rule → TreeLit → List Term × List Clause

@@ -10,11 +10,11 @@ use Rattle.rh_term.specs.declared.term.Term.TheVariants.{Sel, Upd, Op as Compute
 use Rattle.rh_term.specs.Term.{is_at, is_store_term, HasNumber, HasParts, IsTermList}
 use Rattle.rh_term.proofs.Listed.{grown, last_or_before}
 use Rattle.rh_meaning.specs.Sorts.{IsIn, IsSorted, is_leaf}
-use Rattle.rh_oblig.specs.TermList.{with_trees}
 use Rattle.rh_meaning.specs.Tree.{Tree, Leaf, Select, Update, Compute, KindOf, Unheld, place_of, tree_place, with_term, with_tree}
 use Rattle.rh_meaning.proofs.Places.{place_found}
 use Rattle.rh_meaning.proofs.Sorted.{absent, leaf_parts, parts_here, parts_longer, store_at_place, value_at_place}
 use Rattle.rh_meaning.proofs.Trees.{stays_in, with_tree_has}
+use Rattle.rh_oblig.specs.TermList.{with_trees}
 
 abbrev pub is_update : Term → Bool
 is_update (Upd store address value) = true

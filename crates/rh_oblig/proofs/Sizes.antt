@@ -28,16 +28,16 @@ use Rattle.rh_term.specs.declared.clause.Clause.{Clause}
 use Rattle.rh_term.specs.declared.term.Term.{Term}
 use Rattle.rh_term.specs.declared.term.Term.TheVariants.{Fresh, Start}
 use Rattle.rh_term.specs.Laws.{denial}
-use Rattle.rh_oblig.specs.Goals.{conclusion_goals, goals, template_goals}
-use Rattle.rh_oblig.specs.Hypotheses.{call_clauses_of, conclusion_clauses, hypotheses, is_var, local_clause, own_clauses, side_literal, slot_literals, units, var_metas}
 use Rattle.rh_meaning.specs.Literal.{TreeLit, TreeClause, differs, equals, unheld_tree}
 use Rattle.rh_meaning.specs.Meaning.{atom_literal, fact_literals}
 use Rattle.rh_meaning.specs.Placed.{clause_in, clauses_in, lit_in}
+use Rattle.rh_meaning.specs.Tree.{Tree, Leaf}
+use Rattle.rh_oblig.specs.Goals.{conclusion_goals, goals, template_goals}
+use Rattle.rh_oblig.specs.Hypotheses.{call_clauses_of, conclusion_clauses, hypotheses, is_var, local_clause, own_clauses, side_literal, slot_literals, units, var_metas}
 use Rattle.rh_oblig.specs.Obligation.{obligation_clauses, obligations_of, parts_of, AreSmallClauses}
 use Rattle.rh_term.specs.declared.obligation.Obligation.{Obligation}
 use Rattle.rh_oblig.specs.Few.{AreFewClauses}
 use Rattle.rh_oblig.specs.Statement.{address, before, operator_literals, step_literals, store_after, value}
-use Rattle.rh_meaning.specs.Tree.{Tree, Leaf}
 use Rattle.rh_oblig.proofs.Each.{part_for}
 use Rattle.rh_oblig.proofs.RuleTrees.{all_flat, all_mapped}
 

@@ -17,13 +17,13 @@ use Rattle.rh_il.specs.declared.value.Op.TheVariants.{Add, Sub, Mul, Less, Equal
 use Rattle.rh_term.specs.declared.term.Term.{Term}
 use Rattle.rh_term.specs.declared.term.Term.TheVariants.{Num, Cst, Addr, Any, Fresh, Answer, Sel, Upd, Op as Computed, Kind, Una}
 use Rattle.rh_term.specs.Term.{is_store_term, is_value_term, HasNumber, HasParts}
-use Rattle.rh_oblig.specs.TermList.{AreFit, closed, folded, read_below, terms_from, unheld_below, walked, IsClosed}
 use Rattle.rh_meaning.specs.Sorts.{IsIn}
 use Rattle.rh_meaning.specs.Tree.{Leaf, place_of, with_term}
-use Rattle.rh_oblig.proofs.Kept.{get_same, is_update, is_update_at, update_same, fit_longer, kept_more, IsFit, IsFlat, IsKept}
 use Rattle.rh_meaning.proofs.Places.{with_term_has}
 use Rattle.rh_meaning.proofs.Sorted.{parts_here}
 use Rattle.rh_meaning.proofs.Trees.{stays_in}
+use Rattle.rh_oblig.specs.TermList.{AreFit, closed, folded, read_below, terms_from, unheld_below, walked, IsClosed}
+use Rattle.rh_oblig.proofs.Kept.{get_same, is_update, is_update_at, update_same, fit_longer, kept_more, IsFit, IsFlat, IsKept}
 use Rattle.rh_oblig.proofs.Walks.{from_fits, walked_none, walked_some}
 
 -- ---- what a term costs: its own turn, and those of the terms to which it may lead

@@ -1,7 +1,7 @@
 //! The list with all terms to which its terms lead.
 ghost use Rattle.std.specs.Prelude.{◌≡◌, ◌+◌, ◌<◌, ◌^◌, length, IfOk, IsSome, OnOk, fold, slice_get};
-ghost use Rattle.rh_oblig.specs.TermList.{AreFit, closed, terms_from};
 ghost use Rattle.rh_meaning.specs.Tree.{with_term};
+ghost use Rattle.rh_oblig.specs.TermList.{AreFit, closed, terms_from};
 ghost use Rattle.rh_term.specs.Term.{IsTermList};
 
 use rh_il::Value;

@@ -1,9 +1,9 @@
 //! What has to be shown of a rule: one goal for each of its obligations.
 ghost use Rattle.std.specs.Prelude.{◌≡◌, ◌++◌, [], ◌∷◌, IfOk};
-ghost use Rattle.rh_oblig.specs.Goals.{conclusion_goals, goals, template_goals};
 ghost use Rattle.rh_meaning.specs.Literal.{equals};
-ghost use Rattle.rh_oblig.specs.Statement.{step_literals, store_after, value};
 ghost use Rattle.rh_meaning.specs.View.{lit_of, lits_of};
+ghost use Rattle.rh_oblig.specs.Goals.{conclusion_goals, goals, template_goals};
+ghost use Rattle.rh_oblig.specs.Statement.{step_literals, store_after, value};
 
 use crate::statement::{address, step_literals, store_after, value};
 use rh_meaning::{TreeLit, equals, fact_literals};

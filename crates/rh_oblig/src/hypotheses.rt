@@ -1,10 +1,10 @@
 //! What an obligation of a rule may take for granted.
 ghost use Rattle.std.specs.Prelude.{◌≡◌, ◌++◌, [], ◌∷◌, ◌<◌, ◌^◌, IfOk, OnOk, map, length};
 ghost use Rattle.std.specs.List.{flat_map};
-ghost use Rattle.rh_oblig.specs.Hypotheses.{conclusion_clauses, hypotheses, side_literal, side_operand, side_tree, slot_literals, units};
 ghost use Rattle.rh_meaning.specs.Meaning.{fact_literals};
-ghost use Rattle.rh_oblig.specs.Statement.{before};
 ghost use Rattle.rh_meaning.specs.View.{tree_of, lit_of, lits_of, clauses_of};
+ghost use Rattle.rh_oblig.specs.Hypotheses.{conclusion_clauses, hypotheses, side_literal, side_operand, side_tree, slot_literals, units};
+ghost use Rattle.rh_oblig.specs.Statement.{before};
 
 use crate::own::push_own_clauses;
 use crate::statement::{before, step_literals, value};

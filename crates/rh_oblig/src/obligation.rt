@@ -3,13 +3,13 @@ ghost use Rattle.std.specs.Prelude.{ℕ, ◌≡◌, ◌<◌, ◌≤◌, ◌^◌,
 ghost use Rattle.rh_rule.specs.RuleFiles.{IsRuleOf, OfRule};
 ghost use Rattle.rh_term.specs.Laws.{denial};
 ghost use Rattle.std.specs.List.{All, AllByRecursion, flat_map};
-ghost use Rattle.rh_oblig.specs.Obligation.{IsSmall, excess, obligation_clauses, obligations_of, parts_of};
 ghost use Rattle.rh_meaning.specs.Placed.{clause_in, clauses_in, lit_in};
-ghost use Rattle.rh_oblig.specs.Few.{AreFewClauses, trees_size};
 ghost use Rattle.rh_meaning.specs.Sorts.{IsIn, IsSorted};
 ghost use Rattle.rh_meaning.specs.Literal.{clause_trees, literal_trees};
-ghost use Rattle.rh_oblig.specs.TermList.{first_trees, term_list};
 ghost use Rattle.rh_meaning.specs.View.{clauses_of, lit_of, lits_of};
+ghost use Rattle.rh_oblig.specs.Obligation.{IsSmall, excess, obligation_clauses, obligations_of, parts_of};
+ghost use Rattle.rh_oblig.specs.Few.{AreFewClauses, trees_size};
+ghost use Rattle.rh_oblig.specs.TermList.{first_trees, term_list};
 
 use crate::goals::goals;
 use crate::hypotheses::hypotheses;

@@ -1,11 +1,11 @@
 //! What a form of statement says of its own in a propagation rule.
 ghost use Rattle.std.specs.Prelude.{◌≡◌, ◌++◌, ◌<◌, ◌^◌, [], ◌∷◌, IfOk, OnOk, filter, map, not, ◌==◌, length};
 ghost use Rattle.std.specs.List.{flat_map};
-ghost use Rattle.rh_oblig.specs.Hypotheses.{call_clauses_of, entry_clauses, local_clause, new_clauses, own_clauses, var_metas};
 ghost use Rattle.rh_meaning.specs.Literal.{differs};
-ghost use Rattle.rh_oblig.specs.Statement.{address, before};
 ghost use Rattle.rh_meaning.specs.Tree.{Leaf, Unheld};
 ghost use Rattle.rh_meaning.specs.View.{clauses_of, lit_of, tree_of};
+ghost use Rattle.rh_oblig.specs.Hypotheses.{call_clauses_of, entry_clauses, local_clause, new_clauses, own_clauses, var_metas};
+ghost use Rattle.rh_oblig.specs.Statement.{address, before};
 ghost use Rattle.rh_term.specs.declared.term.Term.TheVariants.{Fresh, Yes};
 
 use crate::hypotheses::{push_clause, push_unit};

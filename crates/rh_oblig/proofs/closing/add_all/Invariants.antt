@@ -1,6 +1,6 @@
 use Rattle.std.proofs.Common.{◌≡◌, ◌+◌, ◌<◌, ◌^◌, length, drop, fold}
-use Rattle.rh_oblig.specs.TermList.{AreFit}
 use Rattle.rh_meaning.specs.Tree.{with_term}
+use Rattle.rh_oblig.specs.TermList.{AreFit}
 use Rattle.rh_oblig.proofs.closing.add_all.Given as goal
 
 abbrev pub invariant-loop-other : goal.invariant-loop-other

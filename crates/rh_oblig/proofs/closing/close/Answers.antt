@@ -1,7 +1,7 @@
 use Rattle.std.proofs.Common.{◌<◌, ◌≤◌, ◌*◌, ◌-◌, List, length, fold, sym, subst, ◌∙◌, ap, arith}
+use Rattle.rh_meaning.specs.Tree.{with_term}
 use Rattle.rh_oblig.specs.TermList.{AreFit, closed}
 use Rattle.rh_term.specs.declared.term.Term.{Term}
-use Rattle.rh_meaning.specs.Tree.{with_term}
 use Rattle.rh_oblig.proofs.Walks.{from_few, from_fits, walk_step, walked_longer}
 use Rattle.rh_oblig.proofs.closing.close.Goals as goal
 

@@ -7,15 +7,15 @@ use Rattle.rh_term.specs.declared.term.Term.{Term}
 use Rattle.rh_term.specs.declared.clause.Clause.{Clause}
 use Rattle.rh_meaning.specs.declared.literal.TreeLit.{TreeLit as BuiltLit}
 use Rattle.rh_meaning.specs.declared.literal.TreeClause.{TreeClause as BuiltClause}
+use Rattle.rh_meaning.specs.Literal.{TreeLit, TreeClause, clause_trees, literal_trees}
+use Rattle.rh_meaning.specs.Sorts.{IsSorted}
+use Rattle.rh_meaning.specs.View.{clauses_of, lit_of, lits_of}
 use Rattle.rh_oblig.specs.declared.obligation.ObligFault.TheVariants.{TooManyTerms}
 use Rattle.rh_oblig.specs.Goals.{goals as goals_of}
 use Rattle.rh_oblig.specs.Hypotheses.{hypotheses}
-use Rattle.rh_meaning.specs.Literal.{TreeLit, TreeClause, clause_trees, literal_trees}
 use Rattle.rh_oblig.specs.Obligation.{IsSmall, first_excess, parts_of, terms_of}
 use Rattle.rh_oblig.specs.Few.{AreFewClauses, trees_size}
-use Rattle.rh_meaning.specs.Sorts.{IsSorted}
 use Rattle.rh_oblig.specs.TermList.{first_trees, term_list}
-use Rattle.rh_meaning.specs.View.{clauses_of, lit_of, lits_of}
 use Rattle.rh_oblig.proofs.Each.{at_goal, err_is, excess_more, part_for, part_is, parts_more, too_many_at}
 use Rattle.rh_oblig.proofs.RuleTrees.{goals_sorted, hypotheses_sorted}
 use Rattle.rh_oblig.proofs.Sizes.{hypotheses_fit, passed}

@@ -5,10 +5,10 @@ use Rattle.rh_meaning.specs.declared.literal.TreeLit.{TreeLit as BuiltLit}
 use Rattle.rh_meaning.specs.declared.literal.TreeClause.{TreeClause as BuiltClause}
 use Rattle.rh_meaning.specs.Sorts.{IsSorted}
 use Rattle.rh_meaning.specs.Literal.{clause_trees, literal_trees}
-use Rattle.rh_oblig.specs.Few.{trees_size}
-use Rattle.rh_oblig.specs.TermList.{with_trees}
 use Rattle.rh_meaning.specs.Tree.{Tree}
 use Rattle.rh_meaning.specs.View.{clauses_of, lits_of}
+use Rattle.rh_oblig.specs.Few.{trees_size}
+use Rattle.rh_oblig.specs.TermList.{with_trees}
 use Rattle.rh_oblig.proofs.Build.{adds_piece, clauses_cut, piece_room}
 use Rattle.rh_oblig.proofs.term_list.add_clauses.Goals as goal
 
