@@ -28,12 +28,13 @@ use Rattle.rh_ground.specs.Binding.{Binding, FitsKind, FitsBinding, bound, as_nu
 use Rattle.rh_ground.specs.Match.{matches, template_under, callee_of}
 use Rattle.rh_term.specs.Model.{Model, IsModel, AValue, AStore, alike, is_number, value_of}
 use Rattle.rh_term.proofs.Stores.{value_eq-true, same_store-reads}
-use Rattle.rh_oblig.specs.Literal.{TreeClause, equals}
+use Rattle.rh_meaning.specs.Literal.{TreeClause, equals}
+use Rattle.rh_meaning.specs.Meaning.{fact_literals}
+use Rattle.rh_meaning.specs.Denotation.{denotation, is_true_in, are_true_in}
 use Rattle.rh_oblig.specs.Hypotheses.{hypotheses, units, conclusion_clauses, side_literal}
 use Rattle.rh_oblig.specs.Goals.{goals, conclusion_goals, template_goals}
-use Rattle.rh_oblig.specs.Meaning.{fact_literals}
 use Rattle.rh_oblig.specs.Statement.{before, address, value, step_literals, store_after}
-use Rattle.rh_oblig.specs.Valid.{denotation, is_true_in, are_true_in, IsSound}
+use Rattle.rh_oblig.specs.Valid.{IsSound}
 use Rattle.rh_ground.specs.Template.{IsPlain, IsTame, IsTemplateOf}
 use Rattle.rh_lift.specs.Template.{model_at, IsSafe, AreMet, TemplatesStep}
 use Rattle.rh_lift.proofs.Cells.{same_reads}

@@ -14,9 +14,9 @@ use Rattle.rh_rule.specs.Params.{kind_of}
 use Rattle.rh_ground.specs.Binding.{Binding, FitsKind, FitsBinding, bound, as_base, as_number, as_variable, base_under}
 use Rattle.rh_term.specs.Model.{AValue}
 use Rattle.rh_term.specs.Store.{read}
-use Rattle.rh_oblig.specs.Literal.{value_tree}
+use Rattle.rh_meaning.specs.Literal.{value_tree}
+use Rattle.rh_meaning.specs.Denotation.{denotation}
 use Rattle.rh_oblig.specs.Statement.{before, value}
-use Rattle.rh_oblig.specs.Valid.{denotation}
 use Rattle.rh_ground.specs.Template.{IsTame}
 use Rattle.rh_lift.specs.Template.{model_at}
 

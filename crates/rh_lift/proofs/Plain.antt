@@ -24,9 +24,9 @@ use Rattle.rh_ground.specs.Binding.{Binding, FitsBinding, bound, as_variable, ba
 use Rattle.rh_ground.specs.Match.{template_under}
 use Rattle.rh_term.specs.Model.{Model, AStore, is_number, value_of, store_of}
 use Rattle.rh_term.specs.Store.{write, select, update}
-use Rattle.rh_oblig.specs.Tree.{Tree}
+use Rattle.rh_meaning.specs.Tree.{Tree}
+use Rattle.rh_meaning.specs.Denotation.{denotation, is_true_in}
 use Rattle.rh_oblig.specs.Statement.{value, operator_literals, step_literals, store_after}
-use Rattle.rh_oblig.specs.Valid.{denotation, is_true_in}
 use Rattle.rh_ground.specs.Template.{IsTame, IsPlain}
 use Rattle.rh_lift.specs.Template.{model_at, IsSafe}
 use Rattle.rh_lift.proofs.Cells.{write_inside}

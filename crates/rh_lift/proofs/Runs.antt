@@ -13,10 +13,10 @@ use Rattle.rh_rule.specs.declared.rule.Rule.{Rule}
 use Rattle.rh_rule.specs.declared.rule.Ruling.{Ruling}
 use Rattle.rh_rule.specs.declared.schema.Schema.{Schema}
 use Rattle.rh_ground.specs.Facts.{Known}
+use Rattle.rh_meaning.specs.Meaning.{fact_literals}
+use Rattle.rh_meaning.specs.Denotation.{are_true_in}
 use Rattle.rh_oblig.specs.Hypotheses.{side_literal, units}
-use Rattle.rh_oblig.specs.Meaning.{fact_literals}
 use Rattle.rh_oblig.specs.Statement.{before}
-use Rattle.rh_oblig.specs.Valid.{are_true_in}
 use Rattle.rh_transform.specs.Rewritten.{Candidate, first_applicable}
 use Rattle.rh_term.specs.Model.{Model}
 use Rattle.rh_lift.specs.Runs.{AreSound}

@@ -16,10 +16,11 @@ use Rattle.rh_term.specs.Store.{nothing}
 use Rattle.rh_il_step.specs.declared.frame.Frame.{Frame}
 use Rattle.rh_il_step.specs.State.{IsHeld, cell}
 use Rattle.rh_il_step.specs.Step.{Stuck, executed}
+use Rattle.rh_meaning.specs.Meaning.{fact_literals}
+use Rattle.rh_meaning.specs.Denotation.{are_true_in}
 use Rattle.rh_oblig.specs.Hypotheses.{side_literal, units}
-use Rattle.rh_oblig.specs.Meaning.{fact_literals}
 use Rattle.rh_oblig.specs.Statement.{before}
-use Rattle.rh_oblig.specs.Valid.{are_true_in, IsSound}
+use Rattle.rh_oblig.specs.Valid.{IsSound}
 
 -- the model of a state: the variables at a base under a binding, and the store
 abbrev pub model_at : Binding → ℕ → List Value → Model
