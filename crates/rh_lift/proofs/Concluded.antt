@@ -43,8 +43,8 @@ pub record Applies (schemas : List Schema) (rule : Rule) (width : ℕ) (binding 
   pub sides : list_all (side_holds binding) rule.sides ≡ true
   pub premises : list_all (λ premise. fact_holds schemas base around.before (fact_under binding premise)) rule.premises ≡ true
 
--- what holds of a step in a model: the statement steps, goes the way of the slot and has what its form says of its own,
--- and what the form makes of the store is the new one
+-- a step in a model: the statement can step, and goes the way of the slot; what its form says of its own is true; and
+-- the store that the form leaves reads like the new one
 pub record Steps (params : List Param) (binding : Binding) (base : ℕ) (around : Around) (pattern : Form) (slot : Slot) (new : List Value) : Type 0 where
   pub steps : list_all (is_true_in (model_of binding base around)) (step_literals params pattern) ≡ true
   pub ways : list_all (is_true_in (model_of binding base around)) (slot_literals params pattern slot) ≡ true

@@ -84,7 +84,7 @@ module _ (width : ℕ) (params : List Param) (binding : Binding) (procs : List P
   abbrev gone : Outcome
   gone = Went (record { frames = past top number slot ∷ below; cells = new })
 
-  -- a model of the step in which the pattern tells of it
+  -- a model of the step, and of what a pattern of its statement says of it
   pub record Modelled (pattern : Form) : Type 0 where
     pub any : Value
     pub fresh : Value

@@ -70,7 +70,7 @@ constant_param (Some param) is = constant_is param.kind is
 pub constant_kind : (params : List Param) (meta : ℕ) → not (is_var params meta) ≡ true → kind_of params meta ≡ AConst
 constant_kind params meta is = constant_param (slice_get params meta) is
 
-pub all_tame : (bases : List RuleBase) → not (has_wild bases) ≡ true → AllByRecursion IsTame bases
+all_tame : (bases : List RuleBase) → not (has_wild bases) ≡ true → AllByRecursion IsTame bases
 all_tame [] tame = tt
 all_tame (Meta meta ∷ bases) tame = (tt, all_tame bases tame)
 all_tame (Num number ∷ bases) tame = (tt, all_tame bases tame)

@@ -106,7 +106,7 @@ is_model width params binding base around fits values =
 -- ---- operands
 
 -- an argument is the operand of a statement
-pub as_operand : (base : ℕ) (cells : List Value) (arg : Arg) → arg_value base cells arg ≡ base_value cells base (as_base arg)
+as_operand : (base : ℕ) (cells : List Value) (arg : Arg) → arg_value base cells arg ≡ base_value cells base (as_base arg)
 as_operand base cells (Var number) = refl
 as_operand base cells (Const number) = refl
 

@@ -53,7 +53,7 @@ held_below : (size location : ℕ) (value : Value) → IsHeld size value → val
 held_below size location value held is = subst (IsHeld size) is held
 
 -- no cell points past the store
-pub unheld_past : (cells : List Value) (size location : ℕ) → ((l : ℕ) → IsHeld size (cell cells l)) → size ≤ location → is_unheld cells (APointer location) ≡ true
+unheld_past : (cells : List Value) (size location : ℕ) → ((l : ℕ) → IsHeld size (cell cells l)) → size ≤ location → is_unheld cells (APointer location) ≡ true
 unheld_past cells size location held past =
     unheld-true cells (APointer location) (λ l is. let below : location < size = held_below size location (cell cells l) (held l) is in absurd (omega (arith, below, past)))
 
