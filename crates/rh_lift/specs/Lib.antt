@@ -1,2 +1,3 @@
-pub mod Template
-pub mod Runs
+pub mod Holds
+pub mod Standing
+pub mod Local

@@ -1,5 +1,0 @@
-use Rattle.rh_lift.proofs.Returned.{returns_kept}
-use Rattle.rh_lift.proofs.returns_kept.Goals as goal
-
-pub returns : goal.returns
-returns c = returns_kept
