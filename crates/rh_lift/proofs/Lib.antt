@@ -1,8 +1,8 @@
 pub mod Cells
-pub mod Operands
-pub mod Plain
 pub mod Truth
-pub mod Kept
-pub mod SafeStates
-pub mod Runs
-pub mod Returned
+pub mod Footprints
+pub mod Shaped
+pub mod Suspended
+pub mod KnownStates
+pub mod SameSteps
+pub mod WholeRuns

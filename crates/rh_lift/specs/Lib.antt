@@ -1,2 +1,5 @@
-pub mod Template
+pub mod Holds
+pub mod Standing
+pub mod Local
+pub mod LocalLaws
 pub mod Runs

@@ -1,21 +1,22 @@
 //! What the soundness of rules says of the steps of a program.
 #![tactic(auto)]
 
-ghost use Rattle.rh_lift.specs.Runs.{ReturnsKept};
-ghost use Rattle.rh_lift.specs.Template.{TemplatesStep};
+ghost use Rattle.rh_lift.specs.LocalLaws.{LocalLaws};
+ghost use Rattle.rh_lift.specs.Runs.{FactsHoldInRuns, ReturnsKept, StepsKept};
 
-/// The template of a sound rule makes the step of the statement that it replaces, to the same state,
-/// wherever that statement steps and the rule's premises hold.
-///
-/// The local soundness condition follows S. Lerner, T. Millstein, E. Rice and C. Chambers, Automated
-/// Soundness Proofs for Dataflow Analyses and Transformations via Local Rules, 2005.
-pub fn templates_step()
-    ensures { TemplatesStep }
+/// Given the laws on one step, each known fact holds in every reached state of the program that reaches its edge.
+pub fn facts_hold_in_runs()
+    ensures { LocalLaws → FactsHoldInRuns }
 {}
 
-/// Where a program returns a value within so many steps, the program that sound rules rewrite
-/// returns it within as many. Shown for programs without calls, and for rules without premises and
-/// conditions.
+/// Given the laws on one step: from each reached state from which the program steps, the program that sound rules rewrite makes
+/// the same step to the same state, or returns the same value.
+pub fn steps_kept()
+    ensures { LocalLaws → StepsKept }
+{}
+
+/// Given the laws on one step: where a program returns a value within so many steps, the program
+/// that sound rules rewrite returns it within as many.
 pub fn returns_kept()
-    ensures { ReturnsKept }
+    ensures { LocalLaws → ReturnsKept }
 {}
