@@ -3,6 +3,6 @@ pub mod Truth
 pub mod Footprints
 pub mod Shaped
 pub mod Suspended
-pub mod KnownStates
+pub mod Invariant
 pub mod SameSteps
 pub mod WholeRuns

@@ -23,7 +23,7 @@ use Rattle.rh_transform.specs.Rewritten.{rewritten_statement, rewritten_body, re
 use Rattle.rh_transform.proofs.Numbered.{changed_size}
 use Rattle.rh_lift.specs.LocalLaws.{LocalLaws}
 use Rattle.rh_lift.specs.Standing.{IsProvedSet}
-use Rattle.rh_lift.proofs.KnownStates.{AreKnown, FactsAt, IsKnownState, caller_at, top_stands}
+use Rattle.rh_lift.proofs.Invariant.{FramesInvariant, FactsAt, Invariant, caller_at, top_stands}
 use Rattle.rh_lift.proofs.Shaped.{body_at, target_same}
 use Rattle.rh_lift.proofs.Suspended.{AreSuspended, IsSuspended}
 
@@ -125,11 +125,11 @@ module _ (file : Rules) (rulings : List Ruling) (procs : List Proc) (known : Kno
         ∙ executed_same top below cells number new suspended
         ∙ laws.rewriting_steps file rulings procs known top below cells here.0 number stmt proved here.1 moves
 
-    from_frames : (frames : List Frame) (cells : List Value) → IsStateOf procs (record { frames = frames; cells = cells }) → AreKnown file.schemas known procs frames cells
+    from_frames : (frames : List Frame) (cells : List Value) → IsStateOf procs (record { frames = frames; cells = cells }) → FramesInvariant file.schemas known procs frames cells
         → step_from procs frames cells ≢ Stuck → step_from after frames cells ≡ step_from procs frames cells
     from_frames [] cells state fine moves = refl
     from_frames (top ∷ below) cells state fine moves = same_at top below cells (statement_at procs top) state fine.0 fine.1 refl moves
 
     -- wherever the program steps, the rewritten program makes the same step
-    pub step_same : (state : State) → IsKnownState file.schemas known procs state → step procs state ≢ Stuck → step after state ≡ step procs state
-    step_same state fine moves = from_frames state.frames state.cells fine.is_state fine.are_known moves
+    pub step_same : (state : State) → Invariant file.schemas known procs state → step procs state ≢ Stuck → step after state ≡ step procs state
+    step_same state fine moves = from_frames state.frames state.cells fine.is_state fine.frames moves

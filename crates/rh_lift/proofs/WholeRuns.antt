@@ -17,15 +17,15 @@ use Rattle.rh_lift.specs.Holds.{holds_in}
 use Rattle.rh_lift.specs.LocalLaws.{LocalLaws}
 use Rattle.rh_lift.specs.Runs.{FactsHoldInRuns, ReturnsKept, StepsKept}
 use Rattle.rh_lift.specs.Standing.{FactsHold, IsProvedSet}
-use Rattle.rh_lift.proofs.KnownStates.{AreKnown, IsKnownState, next_went, run_known}
+use Rattle.rh_lift.proofs.Invariant.{FramesInvariant, Invariant, next_went, run_keeps}
 use Rattle.rh_lift.proofs.SameSteps.{after, start_same, step_same}
 
 pub facts_hold_in_runs : LocalLaws → FactsHoldInRuns
 facts_hold_in_runs laws file rulings procs known state fact proved reached reaches is_known =
-    let fine : IsKnownState file.schemas known procs state = run_known file rulings procs known proved laws reached.arg reached.number reached.steps state reached.reached in
+    let fine : Invariant file.schemas known procs state = run_keeps file rulings procs known proved laws reached.arg reached.number reached.steps state reached.reached in
     let top : Frame = reaches.top in
     let at_top : FactsHold file.schemas known top.proc top.edge top.base state.cells =
-    (subst (λ frames. AreKnown file.schemas known procs frames state.cells) reaches.frames fine.are_known).0 in
+    (subst (λ frames. FramesInvariant file.schemas known procs frames state.cells) reaches.frames fine.frames).0 in
     let there : record { proc = top.proc; edge = top.edge; fact = fact.fact } ≡ fact = same_fact top.proc top.edge fact reaches.proc_is reaches.edge_is in
     subst (λ frames. IsTrue (option_map_or (λ schema. holds_in frames state.cells schema fact.fact.args) (slice_get file.schemas fact.fact.schema) false)) (sym reaches.frames)
     (at_top fact.fact (subst (λ (f : FactAt). IsTrue (known f)) (sym there) is_known))
@@ -35,7 +35,7 @@ facts_hold_in_runs laws file rulings procs known state fact proved reached reach
 
 pub steps_kept : LocalLaws → StepsKept
 steps_kept laws file rulings procs known state proved reached moves =
-    step_same file rulings procs known proved laws state (run_known file rulings procs known proved laws reached.arg reached.number reached.steps state reached.reached) moves
+    step_same file rulings procs known proved laws state (run_keeps file rulings procs known proved laws reached.arg reached.number reached.steps state reached.reached) moves
 
 module _ (laws : LocalLaws) (file : Rules) (rulings : List Ruling) (procs : List Proc) (known : Known) (proved : IsProvedSet file rulings procs known) where
   abbrev others : List Proc
@@ -54,7 +54,7 @@ module _ (laws : LocalLaws) (file : Rules) (rulings : List Ruling) (procs : List
       elim (run procs arg steps) as (λ o. run procs arg steps ≡ o → option_and_then (λ s. next (step procs s)) o ≡ Some state → run others arg (suc steps) ≡ Some state) [
         | None ↦ λ at told. cc
         | Some before ↦ λ at told.
-            let fine : IsKnownState file.schemas known procs before = run_known file rulings procs known proved laws arg fits steps before at in
+            let fine : Invariant file.schemas known procs before = run_keeps file rulings procs known proved laws arg fits steps before at in
             let moves : step procs before ≢ Stuck = went_moves (step procs before) state (next_went (step procs before) state told) in
             let same : step others before ≡ step procs before = step_same file rulings procs known proved laws before fine moves in
             ap (option_and_then (λ s. next (step others s))) (run_same arg fits steps before at) ∙ ap next same ∙ told
@@ -67,7 +67,7 @@ module _ (laws : LocalLaws) (file : Rules) (rulings : List Ruling) (procs : List
         within = returns.within;
         state = returns.state;
         reached = run_same arg fits returns.steps returns.state returns.reached;
-        returned = step_same file rulings procs known proved laws returns.state (run_known file rulings procs known proved laws arg fits returns.steps returns.state returns.reached)
+        returned = step_same file rulings procs known proved laws returns.state (run_keeps file rulings procs known proved laws arg fits returns.steps returns.state returns.reached)
             (return_moves _ value returns.returned) ∙ returns.returned;
       }
 

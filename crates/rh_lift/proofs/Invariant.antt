@@ -1,4 +1,4 @@
--- The known facts hold in each state of a run.
+-- What each state of a run keeps: the known facts hold where its top frame stands, and the frames below it are at their calls.
 use Rattle.std.proofs.Common.{ℕ, zero, suc, ℤ, pos, ◌≡◌, ◌+◌, ◌-◌, ◌<◌, ◌≤◌, true, List, [], ◌∷◌, ◌++◌, length, Some, None, slice_set, replicate, refl, ap, sym, ◌∙◌, subst, arith}
 use Rattle.std.specs.List.{AllByRecursion}
 use Rattle.std.specs.Option.{option_and_then}
@@ -44,14 +44,15 @@ FactsAt schemas known frame cells = FactsHold schemas known frame.proc frame.edg
 abbrev pub StandsAt : List Schema → Known → List Proc → Frame → List Value → Proc → ℕ → Stmt → Type 0
 StandsAt schemas known procs frame cells proc number stmt = Stands schemas known procs frame.proc frame.edge frame.base cells proc number stmt
 
--- the known facts hold where the top frame stands, and the frames below it are at their calls
-abbrev pub AreKnown : List Schema → Known → List Proc → List Frame → List Value → Type 0
-AreKnown schemas known procs [] cells = Unit {0}
-AreKnown schemas known procs (top ∷ below) cells = FactsAt schemas known top cells × AreSuspended schemas known procs cells below
+-- the facts that are known on the edge of the top frame hold, and the frames below it are at their calls
+abbrev pub FramesInvariant : List Schema → Known → List Proc → List Frame → List Value → Type 0
+FramesInvariant schemas known procs [] cells = Unit {0}
+FramesInvariant schemas known procs (top ∷ below) cells = FactsAt schemas known top cells × AreSuspended schemas known procs cells below
 
-pub record IsKnownState (schemas : List Schema) (known : Known) (procs : List Proc) (state : State) : Type 0 where
+-- what each state of a run keeps
+pub record Invariant (schemas : List Schema) (known : Known) (procs : List Proc) (state : State) : Type 0 where
   pub is_state : IsStateOf procs state
-  pub are_known : AreKnown schemas known procs state.frames state.cells
+  pub frames : FramesInvariant schemas known procs state.frames state.cells
 
 zeros_read : (count at : ℕ) → cell (replicate count (Num (pos 0))) at ≡ Num (pos 0)
 zeros_read zero at = refl
@@ -102,16 +103,16 @@ module _ (file : Rules) (rulings : List Ruling) (procs : List Proc) (known : Kno
 
   module _ (laws : LocalLaws) where
     abbrev Keeps : Outcome → Type 0
-    Keeps outcome = (next : State) → outcome ≡ Went next → AreKnown file.schemas known procs next.frames next.cells
+    Keeps outcome = (next : State) → outcome ≡ Went next → FramesInvariant file.schemas known procs next.frames next.cells
 
-    went : (state : State) → AreKnown file.schemas known procs state.frames state.cells → Keeps (Went state)
-    went state fine next told = let same : state ≡ next = cc in subst (λ (s : State). AreKnown file.schemas known procs s.frames s.cells) same fine
+    went : (state : State) → FramesInvariant file.schemas known procs state.frames state.cells → Keeps (Went state)
+    went state fine next told = let same : state ≡ next = cc in subst (λ (s : State). FramesInvariant file.schemas known procs s.frames s.cells) same fine
 
     -- ---- a procedure begins
 
-    begun : (callee : ℕ) (code : Proc) (value : Value) (cells : List Value) → slice_get procs callee ≡ Some code → AreHeld (length cells) cells → IsHeld (length cells) value
+    entry_facts : (callee : ℕ) (code : Proc) (value : Value) (cells : List Value) → slice_get procs callee ≡ Some code → AreHeld (length cells) cells → IsHeld (length cells) value
         → IsSafe (length code.vars) (length cells) (cells ++ fresh_cells procs callee value) → FactsAt file.schemas known (entered callee (length cells)) (cells ++ fresh_cells procs callee value)
-    begun callee code value cells at held value_held safe =
+    entry_facts callee code value cells at held value_held safe =
         let fresh : List Value = fresh_cells procs callee value in
         let are : fresh ≡ value ∷ replicate (length code.vars - 1) (Num (pos 0)) = fresh_are procs proved.program proved.numbers callee code value at in
         let unheld : (location : ℕ) → length cells ≤ location → IsUnheld (cells ++ fresh) location = λ location past.
@@ -124,28 +125,28 @@ module _ (file : Rules) (rulings : List Ruling) (procs : List Proc) (known : Kno
         (λ variable inside. unheld (length cells + variable) (omega arith))
         (λ variable local inside. zeros variable local)
 
-    start_known : (arg : ℤ) → IsNumber arg → FactsAt file.schemas known (entered (main_number procs) 0) (fresh_cells procs (main_number procs) (Num arg))
-    start_known arg fits =
+    start_facts : (arg : ℤ) → IsNumber arg → FactsAt file.schemas known (entered (main_number procs) 0) (fresh_cells procs (main_number procs) (Num arg))
+    start_facts arg fits =
         let main = main_there procs proved.program in
-        begun (main_number procs) main.0 (Num arg) [] main.1 (λ k. zero_held 0) fits
+        entry_facts (main_number procs) main.0 (Num arg) [] main.1 (λ k. zero_held 0) fits
         (top_safe (entered (main_number procs) 0) [] (fresh_cells procs (main_number procs) (Num arg)) main.0 (start_is procs proved.program proved.numbers arg fits) main.1)
 
     -- ---- the steps
 
     module _ (top : Frame) (below : List Frame) (cells : List Value) (number : ℕ) (state : IsStateOf procs (record { frames = top ∷ below; cells = cells }))
         (facts : FactsAt file.schemas known top cells) (suspended : AreSuspended file.schemas known procs cells below) where
-      stayed : (proc : Proc) (stmt : Stmt) → stays stmt ≡ true → StandsAt file.schemas known procs top cells proc number stmt → Keeps (executed procs top below cells number stmt)
-      stayed proc stmt plain at next told =
+      plain_step : (proc : Proc) (stmt : Stmt) → stays stmt ≡ true → StandsAt file.schemas known procs top cells proc number stmt → Keeps (executed procs top below cells number stmt)
+      plain_step proc stmt plain at next told =
           let inside : top.base ≤ length cells = omega (arith, at.safe.inside) in
           let on = stays_on top below number cells procs stmt plain inside next told in
           let new : FactsAt file.schemas known (record top { edge = record { node = At number; slot = on.slot } }) on.new =
           laws.steps_keep_facts file rulings procs known top below cells proc number stmt on.slot on.new proved at plain (told ∙ ap Went on.next_is) in
-          subst (λ (s : State). AreKnown file.schemas known procs s.frames s.cells) (sym on.next_is)
+          subst (λ (s : State). FramesInvariant file.schemas known procs s.frames s.cells) (sym on.next_is)
           (new, suspended_kept file.schemas known procs proved.program proved.numbers below top.base cells on.new state.stacked.1 on.keeps suspended)
 
-      called : (proc : Proc) (to callee : ℕ) (arg : Base) → statement_at procs top ≡ Some (number, Call to callee arg) → StandsAt file.schemas known procs top cells proc number (Call to callee arg)
+      call_step : (proc : Proc) (to callee : ℕ) (arg : Base) → statement_at procs top ≡ Some (number, Call to callee arg) → StandsAt file.schemas known procs top cells proc number (Call to callee arg)
           → Keeps (calls procs top below cells callee (base_value cells top.base arg))
-      called proc to callee arg is at =
+      call_step proc to callee arg is at =
           let value : Value = base_value cells top.base arg in
           let fresh : List Value = fresh_cells procs callee value in
           let found = some_at procs callee (called_is_there procs proved.program top number to callee arg is) in
@@ -174,13 +175,13 @@ module _ (file : Rules) (rulings : List Ruling) (procs : List Proc) (known : Kno
           } in
           let lower : top.base ≤ length cells = omega (arith, at.safe.inside) in
           went _ (
-            begun callee code value cells found.1 at.safe.held value_held safe,
+            entry_facts callee code value cells found.1 at.safe.held value_held safe,
             (caller, suspended_kept file.schemas known procs proved.program proved.numbers below top.base cells (cells ++ fresh) state.stacked.1 (keeps_lower top.base (length cells) cells (cells ++ fresh) lower keeps) suspended),
           )
 
-      ended : (caller : Frame) (frames : List Frame) (value : Value) → AreStacked procs (caller ∷ frames) top.base → IsHeld (length cells) value
+      return_to : (caller : Frame) (frames : List Frame) (value : Value) → AreStacked procs (caller ∷ frames) top.base → IsHeld (length cells) value
           → ((location : ℕ) → IsUnheld cells location → IsApart location value) → AreSuspended file.schemas known procs cells (caller ∷ frames) → Keeps (returns procs (caller ∷ frames) cells value)
-      ended caller frames value stacked value_held apart below_is next told =
+      return_to caller frames value stacked value_held apart below_is next told =
           let here : IsSuspended file.schemas known procs cells caller = below_is.0 in
           let is : returns procs (caller ∷ frames) cells value ≡ ends_call caller frames here.number cells value (Call here.to here.callee here.arg) =
           ap (λ o. elim o as (λ _. Outcome) [ None ↦ Stuck | Some at ↦ ends_call caller frames at.0 cells value at.1 ]) (caller_at cells caller here) in
@@ -195,45 +196,45 @@ module _ (file : Rules) (rulings : List Ruling) (procs : List Proc) (known : Kno
           keeps_set caller.base cells (caller.base + here.to) value (λ location low unheld same. omega (arith, low, same)) (λ location low unheld. apart location unheld) in
           went _ (facts_after, suspended_kept file.schemas known procs proved.program proved.numbers frames caller.base cells new stacked.1 keeps below_is.1) next (sym is ∙ told)
 
-      returned : (value : Value) → IsHeld (length cells) value → ((location : ℕ) → IsUnheld cells location → IsApart location value)
+      return_step : (value : Value) → IsHeld (length cells) value → ((location : ℕ) → IsUnheld cells location → IsApart location value)
           → (frames : List Frame) → AreStacked procs frames top.base → AreSuspended file.schemas known procs cells frames → Keeps (returns procs frames cells value)
-      returned value value_held apart [] stacked below_is next told = cc
-      returned value value_held apart (caller ∷ frames) stacked below_is next told = ended caller frames value stacked value_held apart below_is next told
+      return_step value value_held apart [] stacked below_is next told = cc
+      return_step value value_held apart (caller ∷ frames) stacked below_is next told = return_to caller frames value stacked value_held apart below_is next told
 
-      executed_known : (stmt : Stmt) → statement_at procs top ≡ Some (number, stmt) → (proc : Proc) → StandsAt file.schemas known procs top cells proc number stmt → Keeps (executed procs top below cells number stmt)
-      executed_known (Call to callee arg) is proc at = called proc to callee arg is at
-      executed_known (Return value) is proc at =
-          returned (base_value cells top.base value)
+      executed_step : (stmt : Stmt) → statement_at procs top ≡ Some (number, stmt) → (proc : Proc) → StandsAt file.schemas known procs top cells proc number stmt → Keeps (executed procs top below cells number stmt)
+      executed_step (Call to callee arg) is proc at = call_step proc to callee arg is at
+      executed_step (Return value) is proc at =
+          return_step (base_value cells top.base value)
           (operand_held cells top.base value at.safe.held (proved.numbers top.proc proc at.proc_at number (Return value) at.stmt_at))
           (λ location unheld. base_apart top.base cells value location unheld) below state.stacked.1 suspended
-      executed_known stmt is proc at = stayed proc stmt refl at
+      executed_step stmt is proc at = plain_step proc stmt refl at
 
     -- ---- runs
 
-    from_frames : (frames : List Frame) (cells : List Value) → IsStateOf procs (record { frames = frames; cells = cells }) → AreKnown file.schemas known procs frames cells → Keeps (step_from procs frames cells)
+    from_frames : (frames : List Frame) (cells : List Value) → IsStateOf procs (record { frames = frames; cells = cells }) → FramesInvariant file.schemas known procs frames cells → Keeps (step_from procs frames cells)
     from_frames [] cells state fine next told = cc
     from_frames (top ∷ below) cells state fine next told =
         elim (statement_at procs top) as (λ o. statement_at procs top ≡ o → Keeps (elim o as (λ _. Outcome) [ None ↦ Stuck | Some at ↦ executed procs top below cells at.0 at.1 ])) [
           | None ↦ λ is after gone. cc
           | Some at ↦ λ is.
               let here = top_stands top below cells at.0 at.1 state fine.0 is in
-              executed_known top below cells at.0 state fine.0 fine.1 at.1 is here.0 here.1
+              executed_step top below cells at.0 state fine.0 fine.1 at.1 is here.0 here.1
         ] refl next told
 
-    step_known : (state next : State) → IsKnownState file.schemas known procs state → step procs state ≡ Went next → IsKnownState file.schemas known procs next
-    step_known state next fine told = record {
+    step_keeps_invariant : (state next : State) → Invariant file.schemas known procs state → step procs state ≡ Went next → Invariant file.schemas known procs next
+    step_keeps_invariant state next fine told = record {
       is_state = steps_keep procs proved.program proved.numbers state next fine.is_state told;
-      are_known = from_frames state.frames state.cells fine.is_state fine.are_known next told;
+      frames = from_frames state.frames state.cells fine.is_state fine.frames next told;
     }
 
     -- the facts that are known hold in each state of a run
-    pub run_known : (arg : ℤ) → IsNumber arg → (steps : ℕ) (state : State) → run procs arg steps ≡ Some state → IsKnownState file.schemas known procs state
-    run_known arg fits zero state is =
+    pub run_keeps : (arg : ℤ) → IsNumber arg → (steps : ℕ) (state : State) → run procs arg steps ≡ Some state → Invariant file.schemas known procs state
+    run_keeps arg fits zero state is =
         let same : start procs arg ≡ state = cc in
-        subst (IsKnownState file.schemas known procs) same
-        (record { is_state = start_is procs proved.program proved.numbers arg fits; are_known = (start_known arg fits, tt) })
-    run_known arg fits (suc steps) state is =
-        elim (run procs arg steps) as (λ o. run procs arg steps ≡ o → option_and_then (λ s. next (step procs s)) o ≡ Some state → IsKnownState file.schemas known procs state) [
+        subst (Invariant file.schemas known procs) same
+        (record { is_state = start_is procs proved.program proved.numbers arg fits; frames = (start_facts arg fits, tt) })
+    run_keeps arg fits (suc steps) state is =
+        elim (run procs arg steps) as (λ o. run procs arg steps ≡ o → option_and_then (λ s. next (step procs s)) o ≡ Some state → Invariant file.schemas known procs state) [
           | None ↦ λ at told. cc
-          | Some before ↦ λ at told. step_known before state (run_known arg fits steps before at) (next_went (step procs before) state told)
+          | Some before ↦ λ at told. step_keeps_invariant before state (run_keeps arg fits steps before at) (next_went (step procs before) state told)
         ] refl is
