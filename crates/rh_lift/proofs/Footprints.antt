@@ -144,7 +144,7 @@ computed_apart location Mul (Ptr a) b value is = cc
 computed_apart location Less (Ptr a) b value is = cc
 
 -- the frame goes on in its procedure, over a store that comes from the one that there was
-pub record Stays (top : Frame) (below : List Frame) (number : ℕ) (cells : List Value) (next : State) : Type 0 where
+pub record WentOn (top : Frame) (below : List Frame) (number : ℕ) (cells : List Value) (next : State) : Type 0 where
   pub slot : Slot
   pub new : List Value
   pub next_is : next ≡ record { frames = past top number slot ∷ below; cells = new }
@@ -152,7 +152,7 @@ pub record Stays (top : Frame) (below : List Frame) (number : ℕ) (cells : List
 
 module _ (top : Frame) (below : List Frame) (number : ℕ) (cells : List Value) where
   abbrev GoesOn : Outcome → Type 0
-  GoesOn outcome = (next : State) → outcome ≡ Went next → Stays top below number cells next
+  GoesOn outcome = (next : State) → outcome ≡ Went next → WentOn top below number cells next
 
   went : (slot : Slot) (new : List Value) → KeepsBelow top.base cells new → GoesOn (Went (record { frames = past top number slot ∷ below; cells = new }))
   went slot new keeps next told = record { slot = slot; new = new; next_is = same_state _ next told; keeps = keeps }

@@ -101,6 +101,12 @@ module _ (file : Rules) (rulings : List Ruling) (procs : List Proc) (known : Kno
       stands_at procs caller suspended.proc suspended.number (Call suspended.to suspended.callee suspended.arg)
       (record { proc_at = suspended.stands.proc_at; enters = suspended.stands.enters; stmt_at = suspended.stands.stmt_at })
 
+  -- the variables of a procedure that begins point only to where its argument does
+  fresh_unheld : (callee : ℕ) (code : Proc) (value : Value) (location : ℕ) → slice_get procs callee ≡ Some code → IsApart location value → IsUnheld (fresh_cells procs callee value) location
+  fresh_unheld callee code value location at apart =
+      subst (λ cells. IsUnheld cells location) (sym (fresh_are procs proved.program proved.numbers callee code value at))
+      (unheld_first value (replicate (length code.vars - 1) (Num (pos 0))) location apart (unheld_zeros (length code.vars - 1) location))
+
   module _ (laws : LocalLaws) where
     abbrev Keeps : Outcome → Type 0
     Keeps outcome = (next : State) → outcome ≡ Went next → FramesInvariant file.schemas known procs next.frames next.cells
@@ -117,8 +123,7 @@ module _ (file : Rules) (rulings : List Ruling) (procs : List Proc) (known : Kno
         let are : fresh ≡ value ∷ replicate (length code.vars - 1) (Num (pos 0)) = fresh_are procs proved.program proved.numbers callee code value at in
         let unheld : (location : ℕ) → length cells ≤ location → IsUnheld (cells ++ fresh) location = λ location past.
         unheld_append cells fresh location (unheld_past (length cells) location cells held past)
-        (subst (λ f. IsUnheld f location) (sym are)
-        (unheld_first value (replicate (length code.vars - 1) (Num (pos 0))) location (apart_past (length cells) location value value_held past) (unheld_zeros (length code.vars - 1) location))) in
+        (fresh_unheld callee code value location at (apart_past (length cells) location value value_held past)) in
         let zeros : (variable : ℕ) → 0 < variable → cell (cells ++ fresh) (length cells + variable) ≡ Num (pos 0) = λ variable local.
         get_or-append-add cells fresh variable (Num (pos 0)) ∙ ap (λ f. cell f variable) are ∙ first_then_zeros value (length code.vars - 1) variable local in
         laws.entries_have_facts file rulings procs known callee code (length cells) (cells ++ fresh) proved at safe
@@ -155,11 +160,9 @@ module _ (file : Rules) (rulings : List Ruling) (procs : List Proc) (known : Kno
           let after : IsStateOf procs (record { frames = entered callee (length cells) ∷ top ∷ below; cells = cells ++ fresh }) =
           executed_keeps procs proved.program proved.numbers top below cells number (Call to callee arg) state is _ refl in
           let safe : IsSafe (length code.vars) (length cells) (cells ++ fresh) = top_safe (entered callee (length cells)) (top ∷ below) (cells ++ fresh) code after found.1 in
-          let are : fresh ≡ value ∷ replicate (length code.vars - 1) (Num (pos 0)) = fresh_are procs proved.program proved.numbers callee code value found.1 in
           let keeps : KeepsBelow (length cells) cells (cells ++ fresh) =
           keeps_append (length cells) cells fresh (omega arith)
-          (λ location low unheld. subst (λ f. IsUnheld f location) (sym are)
-          (unheld_first value (replicate (length code.vars - 1) (Num (pos 0))) location (base_apart top.base cells arg location unheld) (unheld_zeros (length code.vars - 1) location))) in
+          (λ location low unheld. fresh_unheld callee code value location found.1 (base_apart top.base cells arg location unheld)) in
           let caller : IsSuspended file.schemas known procs (cells ++ fresh) top = record {
             kept = cells;
             proc = proc;
