@@ -40,7 +40,7 @@ use Rattle.rh_term.specs.Store.{nothing, read, write}
 use Rattle.rh_term.proofs.Stores.{SameReads, update-same}
 use Rattle.rh_oblig.specs.Hypotheses.{own_clauses, slot_literals}
 use Rattle.rh_oblig.specs.Statement.{store_after, value}
-use Rattle.rh_oblig.specs.Valid.{are_true_in, denotation, is_true_in}
+use Rattle.rh_meaning.specs.Denotation.{are_true_in, denotation, is_true_in}
 use Rattle.rh_lift.specs.Local.{stays}
 use Rattle.rh_lift.specs.Standing.{IsSafe}
 use Rattle.rh_lift.proofs.Cells.{write_inside}

@@ -13,3 +13,9 @@ pub mod Facts
 pub mod Candidates
 pub mod Templates
 pub mod Rewriting
+pub mod Footprints
+pub mod Shaped
+pub mod Suspended
+pub mod Invariant
+pub mod SameSteps
+pub mod WholeRuns

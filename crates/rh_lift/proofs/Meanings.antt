@@ -35,12 +35,12 @@ use Rattle.rh_ground.specs.Instance.{fact_under}
 use Rattle.rh_ground.specs.Template.{IsTame}
 use Rattle.rh_term.specs.Model.{Model, AValue, AStore, alike, is_number, value_of, store_of}
 use Rattle.rh_term.specs.Store.{is_unheld, select}
-use Rattle.rh_oblig.specs.Literal.{TreeLit}
-use Rattle.rh_oblig.specs.Meaning.{address_at, arg_at, atom_literal, fact_literals, meaning_operand, meaning_tree, meta_of}
+use Rattle.rh_meaning.specs.Literal.{TreeLit}
+use Rattle.rh_meaning.specs.Meaning.{address_at, arg_at, atom_literal, fact_literals, meaning_operand, meaning_tree, meta_of}
 use Rattle.rh_oblig.specs.Statement.{address}
-use Rattle.rh_oblig.specs.Tree.{Tree}
-use Rattle.rh_oblig.specs.Valid.{denotation, is_true_in}
-use Rattle.rh_lift.specs.Holds.{arg_pointer, arg_value, atom_holds, base_meant, ground_arg, holds_over, term_meant}
+use Rattle.rh_meaning.specs.Tree.{Tree}
+use Rattle.rh_meaning.specs.Denotation.{denotation, is_true_in}
+use Rattle.rh_meaning.specs.Holds.{arg_pointer, arg_value, atom_holds, base_meant, ground_arg, holds_over, term_meant}
 use Rattle.rh_lift.specs.Standing.{fact_holds}
 use Rattle.rh_lift.proofs.Models.{Around, model_of, operand_meant}
 

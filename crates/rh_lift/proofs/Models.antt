@@ -22,11 +22,11 @@ use Rattle.rh_ground.specs.Binding.{Binding, FitsKind, FitsBinding, arg_under, a
 use Rattle.rh_ground.specs.Template.{IsTame}
 use Rattle.rh_term.specs.Model.{Model, IsModel, AValue, AStore, store_of}
 use Rattle.rh_term.specs.Store.{nothing, read, select}
-use Rattle.rh_oblig.specs.Literal.{operand, value_tree}
+use Rattle.rh_meaning.specs.Literal.{operand, value_tree}
 use Rattle.rh_oblig.specs.Statement.{before, value}
-use Rattle.rh_oblig.specs.Tree.{Tree}
-use Rattle.rh_oblig.specs.Valid.{denotation}
-use Rattle.rh_lift.specs.Holds.{arg_value}
+use Rattle.rh_meaning.specs.Tree.{Tree}
+use Rattle.rh_meaning.specs.Denotation.{denotation}
+use Rattle.rh_meaning.specs.Holds.{arg_value}
 
 -- what a step has besides the variables: the operand that `_` is, the new cell, the answer of a call, and the stores
 -- before and after it

@@ -19,7 +19,7 @@ use Rattle.rh_ground.specs.Facts.{GroundFact}
 use Rattle.rh_term.specs.Model.{is_number}
 use Rattle.rh_term.specs.Store.{select}
 use Rattle.rh_term.proofs.Stores.{SameReads, is_unheld-same, select-same}
-use Rattle.rh_lift.specs.Holds.{arg_pointer, arg_value, atom_holds, base_meant, ground_arg, holds_over, term_meant}
+use Rattle.rh_meaning.specs.Holds.{arg_pointer, arg_value, atom_holds, base_meant, ground_arg, holds_over, term_meant}
 use Rattle.rh_lift.specs.Standing.{fact_holds}
 
 module _ (base : ℕ) (left right : List Value) (same : SameReads left right) where

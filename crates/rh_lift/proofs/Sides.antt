@@ -24,8 +24,8 @@ use Rattle.rh_ground.specs.Binding.{Binding, FitsKind, FitsBinding, arg_eq, arg_
 use Rattle.rh_ground.specs.Instance.{side_arg, side_holds}
 use Rattle.rh_term.specs.Model.{Model, AValue, alike, value_of}
 use Rattle.rh_oblig.specs.Hypotheses.{side_literal, side_operand, side_tree}
-use Rattle.rh_oblig.specs.Literal.{binding_tree}
-use Rattle.rh_oblig.specs.Valid.{denotation, is_true_in}
+use Rattle.rh_meaning.specs.Literal.{binding_tree}
+use Rattle.rh_meaning.specs.Denotation.{denotation, is_true_in}
 use Rattle.rh_lift.proofs.Meanings.{constant_kind, variable_kind}
 use Rattle.rh_lift.proofs.Models.{Around, model_of}
 

@@ -1,3 +1,3 @@
-pub mod Holds
 pub mod Standing
 pub mod Local
+pub mod Runs

@@ -17,7 +17,7 @@ use Rattle.rh_rule.specs.RuleFiles.{Rules, IsRuleFile}
 use Rattle.rh_ground.specs.Facts.{GroundFact, Known}
 use Rattle.rh_ground.specs.Rows.{IsSupported}
 use Rattle.rh_il_step.specs.State.{IsHeld, cell}
-use Rattle.rh_lift.specs.Holds.{holds_over}
+use Rattle.rh_meaning.specs.Holds.{holds_over}
 use Rattle.rh_oblig.specs.Valid.{IsSound}
 
 -- the rules that are ruled admitted are sound
