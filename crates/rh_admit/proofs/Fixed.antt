@@ -9,8 +9,8 @@ use Rattle.rh_log.specs.declared.log.Admission.TheVariants.{Admitted, Refused}
 use Rattle.rh_log.specs.declared.log.Log.{Log}
 use Rattle.rh_rule.specs.declared.rule.Rule.{Rule}
 use Rattle.rh_rule.specs.declared.schema.Schema.{Schema}
+use Rattle.rh_meaning.specs.Literal.{TreeLit}
 use Rattle.rh_oblig.specs.Goals.{goals}
-use Rattle.rh_oblig.specs.Literal.{TreeLit}
 use Rattle.rh_oblig.specs.Obligation.{IsAdmitted, IsShown, obligations_of}
 use Rattle.rh_oblig.specs.Ruling.{IsFirstOpen}
 use Rattle.rh_refuter.specs.declared.search.Verdict.{Verdict}

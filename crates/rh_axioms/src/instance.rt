@@ -1,10 +1,8 @@
 //! Instances: clauses of at most three literals.
-ghost use Rattle.std.specs.Prelude.{◌≡◌, ◌++◌, ◌∷◌, [], IfOk};
+ghost use Rattle.std.specs.Prelude.{◌≡◌};
 ghost use Rattle.rh_axioms.specs.Instance.{equal, differ, clause_of};
 
-use rh_list::Items;
-use rh_term::{Clause, Lit};
-use std::alloc::{AllocError, Global};
+use rh_term::{Clause, Lit, Lits};
 
 /// The literals of an instance.
 #[derive(Clone, Copy)]
@@ -37,23 +35,14 @@ pub fn differ(left: u32, right: u32) -> Lit
 }
 
 /// The clause of these literals.
-pub fn clause_of(alloc: Global, instance: Instance) -> Result<Clause, AllocError>
-    ensures { IfOk result (λ clause. clause ≡ clause_of instance) }
+pub fn clause_of(instance: Instance) -> Clause
+    ensures { result ≡ clause_of instance }
 {
-    let mut lits = Items::new(alloc);
-    match instance {
-        Instance::One(a) => {
-            lits.push(a)?;
-        }
-        Instance::Two(a, b) => {
-            lits.push(a)?;
-            lits.push(b)?;
-        }
-        Instance::Three(a, b, c) => {
-            lits.push(a)?;
-            lits.push(b)?;
-            lits.push(c)?;
-        }
+    Clause {
+        lits: match instance {
+            Instance::One(a) => Lits::one(a),
+            Instance::Two(a, b) => Lits::two(a, b),
+            Instance::Three(a, b, c) => Lits::three(a, b, c),
+        },
     }
-    Ok(Clause { lits })
 }

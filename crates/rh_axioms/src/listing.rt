@@ -77,15 +77,11 @@ fn single(schema: Axiom, terms: &Terms, place: u32, term: Term) -> Option<Instan
 }
 
 /// Puts the clause at the end, where there is an instance.
-fn put(
-    alloc: Global,
-    instance: Option<Instance>,
-    clauses: &mut Vec<Clause>,
-) -> Result<(), AllocError>
+fn put(instance: Option<Instance>, clauses: &mut Vec<Clause>) -> Result<(), AllocError>
     ensures { IfOk result (λ _. clauses.new.items ≡ clauses.old.items ++ clauses_of instance) }
 {
     if let Some(instance) = instance {
-        clauses.push(clause_of(alloc, instance)?)?;
+        clauses.push(clause_of(instance))?;
     }
     Ok(())
 }
@@ -99,11 +95,11 @@ fn add_row(
     ensures { IfOk result (λ _. clauses.new.items ≡ clauses.old.items ++ row terms.now schema) }
 {
     match schema {
-        Axiom::A8 => put(alloc, kinds_differ(terms), clauses),
-        Axiom::A9 => add_each(alloc, &NumberPairs, terms, clauses),
+        Axiom::A8 => put(kinds_differ(terms), clauses),
+        Axiom::A9 => add_each(&NumberPairs, terms, clauses),
         Axiom::A10 => add_computations(alloc, terms, clauses),
-        Axiom::A23 => add_each(alloc, &UnheldReads, terms, clauses),
-        _ => add_each(alloc, &OneTerm(schema), terms, clauses),
+        Axiom::A23 => add_each(&UnheldReads, terms, clauses),
+        _ => add_each(&OneTerm(schema), terms, clauses),
     }
 }
 
@@ -115,7 +111,6 @@ trait PerTerm {
     /// Puts the clauses at the end.
     fn add(
         &self,
-        alloc: Global,
         terms: &Terms,
         place: u32,
         term: Term,
@@ -126,7 +121,6 @@ trait PerTerm {
 
 /// Puts the clauses for each term of the list at the end.
 fn add_each<P: PerTerm>(
-    alloc: Global,
     given: &P,
     terms: &Terms,
     clauses: &mut Vec<Clause>,
@@ -134,7 +128,7 @@ fn add_each<P: PerTerm>(
     ensures { IfOk result (λ _. clauses.new.items ≡ clauses.old.items ++ each terms.now (P.clauses_for given.now terms.now)) }
 {
     for (place, term) in terms.as_slice().iter().enumerate() {
-        given.add(alloc, terms, place as u32, *term, clauses)?;
+        given.add(terms, place as u32, *term, clauses)?;
     }
     Ok(())
 }
@@ -148,13 +142,12 @@ impl PerTerm for OneTerm {
 
     fn add(
         &self,
-        alloc: Global,
         terms: &Terms,
         place: u32,
         term: Term,
         clauses: &mut Vec<Clause>,
     ) -> Result<(), AllocError> {
-        put(alloc, single(self.0, terms, place, term), clauses)
+        put(single(self.0, terms, place, term), clauses)
     }
 }
 
@@ -167,7 +160,6 @@ impl PerTerm for NumberPairs {
 
     fn add(
         &self,
-        alloc: Global,
         terms: &Terms,
         place: u32,
         term: Term,
@@ -176,7 +168,7 @@ impl PerTerm for NumberPairs {
         let Some(_number) = as_num(term) else {
             return Ok(());
         };
-        add_each(alloc, &OtherNumbers(place), terms, clauses)
+        add_each(&OtherNumbers(place), terms, clauses)
     }
 }
 
@@ -189,13 +181,12 @@ impl PerTerm for OtherNumbers {
 
     fn add(
         &self,
-        alloc: Global,
         _terms: &Terms,
         later: u32,
         other: Term,
         clauses: &mut Vec<Clause>,
     ) -> Result<(), AllocError> {
-        put(alloc, numbers_differ(self.0, later, other), clauses)
+        put(numbers_differ(self.0, later, other), clauses)
     }
 }
 
@@ -205,7 +196,6 @@ impl PerTerm for Computed {
 
     fn add(
         &self,
-        alloc: Global,
         _terms: &Terms,
         place: u32,
         term: Term,
@@ -214,12 +204,11 @@ impl PerTerm for Computed {
         let Some(operation) = as_op(term) else {
             return Ok(());
         };
-        add_triples(alloc, place, operation, self.triples(operation.0), clauses)
+        add_triples(place, operation, self.triples(operation.0), clauses)
     }
 }
 
 fn add_triples(
-    alloc: Global,
     place: u32,
     operation: (Op, u32, u32),
     triples: &[Triple],
@@ -229,7 +218,7 @@ fn add_triples(
 {
     for triple in triples {
         let instance = instance_with(place, operation, *triple);
-        clauses.push(clause_of(alloc, instance)?)?;
+        clauses.push(clause_of(instance))?;
     }
     Ok(())
 }
@@ -242,7 +231,7 @@ fn add_computations(
     ensures { IfOk result (λ _. clauses.new.items ≡ clauses.old.items ++ each terms.now (computations terms.now)) }
 {
     let computed = Computed::of(alloc, terms)?;
-    add_each(alloc, &computed, terms, clauses)
+    add_each(&computed, terms, clauses)
 }
 
 /// What no cell holds, and the reads.
@@ -254,7 +243,6 @@ impl PerTerm for UnheldReads {
 
     fn add(
         &self,
-        alloc: Global,
         terms: &Terms,
         place: u32,
         term: Term,
@@ -263,7 +251,7 @@ impl PerTerm for UnheldReads {
         let Some(unheld) = as_una(term) else {
             return Ok(());
         };
-        add_each(alloc, &ReadsOf { place, unheld }, terms, clauses)
+        add_each(&ReadsOf { place, unheld }, terms, clauses)
     }
 }
 
@@ -279,7 +267,6 @@ impl PerTerm for ReadsOf {
 
     fn add(
         &self,
-        alloc: Global,
         terms: &Terms,
         at: u32,
         other: Term,
@@ -289,7 +276,6 @@ impl PerTerm for ReadsOf {
             return Ok(());
         };
         put(
-            alloc,
             unheld_unread(terms, self.place, self.unheld, at, read),
             clauses,
         )

@@ -24,9 +24,12 @@ alone_partition n = record {
   in_class = λ i h. ap (slice_index (alone n)) (at_alone n i h);
 }
 
+pub alone_long : (labels : List ℕ) (n : ℕ) → labels ≡ alone n → length labels ≡ n
+alone_long labels n e = ap length e ∙ length-range_with_len 0 n
+
 pub is_partition : (labels : List ℕ) (n : ℕ) → labels ≡ alone n → IsPartition (length labels) labels
 is_partition labels n e =
-    let long : length labels ≡ n = ap length e ∙ length-range_with_len 0 n in
+    let long : length labels ≡ n = alone_long labels n e in
     subst (λ m. IsPartition m labels) (sym long) (subst (IsPartition n) (sym e) (alone_partition n))
 
 -- nothing is finer

@@ -4,3 +4,4 @@ pub mod Joining
 pub mod Symmetry
 pub mod Closing
 pub mod Alone
+pub mod Chaining

@@ -3,6 +3,7 @@ ghost use Rattle.std.specs.Prelude.{◌≡◌, ◌<◌, ◌^◌, length, IfOk};
 ghost use Rattle.rh_term.specs.Partition.{IsPartition, joined};
 ghost use Rattle.rh_classes.specs.Merge.{IsMerge, alone};
 
+use crate::chains::BUCKETS;
 use crate::{closure, congruence};
 use rh_term::Terms;
 use std::alloc::{AllocError, Global};
@@ -12,6 +13,9 @@ use std::marker::Model;
 #[derive(Drop)]
 pub struct Classes {
     labels: Vec<u32>,
+    // room for a merge to work in
+    heads: Vec<u32>,
+    links: Vec<u32>,
 }
 
 impl Model for Classes {
@@ -23,7 +27,9 @@ impl Model for Classes {
 
     ghost view = { λ a. a.labels.items };
 
-    ghost invariant = { λ a. IsPartition (length a.labels.items) a.labels.items };
+    ghost use Rattle.rh_classes.specs.Chain.{HasRoom};
+
+    ghost invariant = { λ a. IsPartition (length a.labels.items) a.labels.items × HasRoom a.labels.items a.heads.items a.links.items };
 }
 
 impl Classes {
@@ -31,8 +37,11 @@ impl Classes {
     pub fn new(alloc: Global, terms: &Terms) -> Result<Self, AllocError>
         ensures { IfOk result (λ classes. classes ≡ alone (length terms.now)) }
     {
+        let count = terms.len();
         Ok(Classes {
-            labels: labels_alone(alloc, terms.len())?,
+            labels: labels_alone(alloc, count)?,
+            heads: room(alloc, BUCKETS)?,
+            links: room(alloc, count as usize)?,
         })
     }
 
@@ -43,7 +52,14 @@ impl Classes {
         requires right { right < length terms.now }
         ensures { IsMerge terms.now self.old left right self.new }
     {
-        closure::merge(terms.as_slice(), self.labels.as_mut_slice(), left, right);
+        closure::merge(
+            terms.as_slice(),
+            self.labels.as_mut_slice(),
+            self.heads.as_mut_slice(),
+            self.links.as_mut_slice(),
+            left,
+            right,
+        );
     }
 
     /// Whether two terms are in one class.
@@ -67,10 +83,19 @@ impl Classes {
     pub fn copy(&self, alloc: Global) -> Result<Self, AllocError>
         ensures { IfOk result (λ copy. copy ≡ self.now) }
     {
+        let labels = self.labels.as_slice();
         Ok(Classes {
-            labels: Vec::from_slice(alloc, self.labels.as_slice())?,
+            labels: Vec::from_slice(alloc, labels)?,
+            heads: room(alloc, BUCKETS)?,
+            links: room(alloc, labels.len())?,
         })
     }
+}
+
+fn room(alloc: Global, count: usize) -> Result<Vec<u32>, AllocError>
+    ensures { IfOk result (λ room. length room.items ≡ count) }
+{
+    vec![in alloc; 0; count]
 }
 
 fn labels_alone(alloc: Global, count: u32) -> Result<Vec<u32>, AllocError>

@@ -6,6 +6,7 @@
 #![tactic(auto)]
 
 mod classes;
+mod chains;
 mod closure;
 mod congruence;
 

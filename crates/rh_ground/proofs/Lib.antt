@@ -3,3 +3,4 @@ pub mod Shapes
 pub mod Members
 pub mod Fitting
 pub mod Searching
+pub mod Greatest

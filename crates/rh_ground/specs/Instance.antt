@@ -22,7 +22,7 @@ use Rattle.rh_rule.specs.declared.rule.SideTerm.{SideTerm}
 use Rattle.rh_rule.specs.declared.rule.SideTerm.TheVariants.{Plain, Compute}
 use Rattle.rh_domain.specs.Binding.{Binding, arg_eq, arg_under, as_number, bindings}
 use Rattle.rh_domain.specs.Constants.{is_constant}
-use Rattle.rh_domain.specs.Facts.{GroundFact}
+use Rattle.rh_domain.specs.declared.fact.GroundFact.{GroundFact}
 use Rattle.rh_ground.specs.Match.{matches, is_variable}
 
 -- what a side term stands for; an operator stands between numbers

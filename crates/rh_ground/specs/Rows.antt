@@ -14,7 +14,9 @@ use Rattle.rh_rule.specs.declared.rule.Ruling.{Ruling}
 use Rattle.rh_rule.specs.declared.rule.Ruling.TheVariants.{Admitted}
 use Rattle.std.specs.Prelude.{Some, slice_get}
 use Rattle.rh_domain.specs.Binding.{Binding}
-use Rattle.rh_domain.specs.Facts.{FactAt, GroundFact, Known}
+use Rattle.rh_domain.specs.Facts.{Known}
+use Rattle.rh_domain.specs.declared.fact.FactAt.{FactAt}
+use Rattle.rh_domain.specs.declared.fact.GroundFact.{GroundFact}
 use Rattle.rh_ground.specs.Instance.{IsInstance, fact_under}
 
 -- the edges that enter a node; none enters the entry

@@ -1,11 +1,13 @@
--- A plain statement steps where its step literals are true in the model of the state, and leaves the
--- store after of that model.
+-- A plain statement steps where its step literals are true in the model of the step, and leaves the store after of
+-- that model.
 use Rattle.std.proofs.Common.{ℕ, ◌≡◌, ◌+◌, ◌<◌, Bool, true, false, ◌&&◌, if◌then◌else◌, List, length, slice_set, refl, ap, sym, ◌∙◌, arith}
 use Rattle.std.specs.List.{list_all}
 use Rattle.std.specs.Bool.{beq}
 use Rattle.std.proofs.Math.ListN.{length-set}
+use Rattle.rh_il.specs.declared.program.Base.{Base}
 use Rattle.rh_il.specs.declared.program.Proc.{Proc}
 use Rattle.rh_il.specs.declared.program.Stmt.{Stmt}
+use Rattle.rh_il.specs.declared.program.Stmt.TheVariants.{Write as AWrite}
 use Rattle.rh_il.specs.declared.value.Op.{Op}
 use Rattle.rh_il.specs.declared.value.Op.TheVariants.{Add, Sub, Mul, Less, Equal}
 use Rattle.rh_il.specs.declared.value.Value.{Value}
@@ -24,14 +26,14 @@ use Rattle.rh_domain.specs.Binding.{Binding, FitsBinding, bound, as_variable, ba
 use Rattle.rh_ground.specs.Match.{template_under}
 use Rattle.rh_term.specs.Model.{Model, AStore, is_number, value_of, store_of}
 use Rattle.rh_term.specs.Store.{write, select, update}
-use Rattle.rh_oblig.specs.Tree.{Tree}
+use Rattle.rh_meaning.specs.Tree.{Tree}
+use Rattle.rh_meaning.specs.Denotation.{denotation, is_true_in}
 use Rattle.rh_oblig.specs.Statement.{value, operator_literals, step_literals, store_after}
-use Rattle.rh_oblig.specs.Valid.{denotation, is_true_in}
 use Rattle.rh_ground.specs.Template.{IsTame, IsPlain}
-use Rattle.rh_lift.specs.Template.{model_at, IsSafe}
-use Rattle.rh_lift.proofs.Cells.{write_inside}
 use Rattle.rh_ground.proofs.Fitting.{variable_inside}
-use Rattle.rh_lift.proofs.Operands.{operand_value}
+use Rattle.rh_lift.specs.Standing.{IsSafe}
+use Rattle.rh_lift.proofs.Cells.{write_inside}
+use Rattle.rh_lift.proofs.Models.{Around, model_of, operand_value}
 
 -- the step literals of a form are true in a model
 abbrev pub steps_in : List Param → Model → Form → Bool
@@ -88,12 +90,17 @@ module _ (top : Frame) (below : List Frame) (cells : List Value) (number : ℕ) 
   sum_is Less to (Num a) (Ptr b) = refl
   sum_is Less to (Ptr a) b = refl
 
--- what a plain statement does in the model of its state
-pub record PlainStep (params : List Param) (binding : Binding) (procs : List Proc) (top : Frame) (below : List Frame) (cells : List Value) (number : ℕ) (old : Stmt) (form : Form) : Type 0 where
-  pub outcome : executed procs top below cells number (template_under binding form old)
-      ≡ (if steps_in params (model_at binding top.base cells) form then goes_on top below number (left_by params (model_at binding top.base cells) form) else Stuck)
-  pub is_store : denotation (model_at binding top.base cells) (store_after params form) ≡ AStore (left_by params (model_at binding top.base cells) form)
-  pub size : steps_in params (model_at binding top.base cells) form ≡ true → length (left_by params (model_at binding top.base cells) form) ≡ length cells
+-- it steps where the literals are true, and leaves the store of the model
+abbrev pub StepsBy : List Param → Binding → List Proc → Frame → List Frame → Around → ℕ → Stmt → Form → Type 0
+StepsBy params binding procs top below around number stmt form =
+    executed procs top below around.before number stmt
+    ≡ (if steps_in params (model_of binding top.base around) form then goes_on top below number (left_by params (model_of binding top.base around) form) else Stuck)
+
+-- what a plain statement does in the model of its step
+pub record PlainStep (params : List Param) (binding : Binding) (procs : List Proc) (top : Frame) (below : List Frame) (around : Around) (number : ℕ) (old : Stmt) (form : Form) : Type 0 where
+  pub outcome : StepsBy params binding procs top below around number (template_under binding form old) form
+  pub is_store : denotation (model_of binding top.base around) (store_after params form) ≡ AStore (left_by params (model_of binding top.base around) form)
+  pub size : steps_in params (model_of binding top.base around) form ≡ true → length (left_by params (model_of binding top.base around) form) ≡ length around.before
 
 length-write : (cells : List Value) (location : ℕ) (value : Value) → location < length cells → length (write cells location value) ≡ length cells
 length-write cells location value inside = ap length (write_inside cells location value inside) ∙ length-set cells location value
@@ -104,38 +111,49 @@ size_updated : (cells : List Value) (address value : Value) → IsHeld (length c
 size_updated cells (Num a) value held pointer = refl
 size_updated cells (Ptr location) value held pointer = length-write cells location value held
 
-module _ (width : ℕ) (params : List Param) (binding : Binding) (procs : List Proc) (top : Frame) (below : List Frame) (cells : List Value) (number : ℕ) (old : Stmt)
-    (fits : FitsBinding width params binding) (safe : IsSafe width top.base cells) where
+module _ (width : ℕ) (params : List Param) (binding : Binding) (procs : List Proc) (top : Frame) (below : List Frame) (around : Around) (number : ℕ)
+    (fits : FitsBinding width params binding) (safe : IsSafe width top.base around.before) where
   abbrev model : Model
-  model = model_at binding top.base cells
+  model = model_of binding top.base around
 
-  at_variable : (meta : ℕ) → kind_of params meta ≡ AVar → top.base + as_variable (bound binding meta) < length cells
+  abbrev cells : List Value
+  cells = around.before
+
+  pub at_variable : (meta : ℕ) → kind_of params meta ≡ AVar → top.base + as_variable (bound binding meta) < length cells
   at_variable meta kind = let inside = variable_inside width params binding meta fits kind in omega (arith, safe.inside)
 
   value_is : (b : RuleBase) → IsTame b → value_of (denotation model (value params b)) ≡ base_value cells top.base (base_under binding b)
-  value_is b tame = ap value_of (operand_value width params binding top.base cells b fits tame)
+  value_is b tame = ap value_of (operand_value width params binding top.base around fits b tame)
 
-  pub plain_step : (form : Form) → IsPlain params form → PlainStep params binding procs top below cells number old form
-  plain_step Skip plain = record { outcome = refl; is_store = refl; size = λ steps. refl }
-  plain_step (Assign to from) plain =
+  -- a write of an operand that has the value of the rule's
+  pub write_step : (to : ℕ) (from : RuleBase) (operand : Base) → value_of (denotation model (value params from)) ≡ base_value cells top.base operand
+      → StepsBy params binding procs top below around number (AWrite (variable_under binding to) operand) (Write to from)
+  write_step to from operand same =
+      let address : Value = cell cells (top.base + variable_under binding to) in
+      write_is top below cells number address (base_value cells top.base operand) (safe.held _)
+      ∙ ap (λ v. if beq (is_number address) false && true then goes_on top below number (update cells address v) else Stuck) (sym same)
+
+  pub plain_step : (old : Stmt) (form : Form) → IsPlain params form → PlainStep params binding procs top below around number old form
+  plain_step old Skip plain = record { outcome = refl; is_store = refl; size = λ steps. refl }
+  plain_step old (Assign to from) plain =
       record {
         outcome = set_is top below cells number _ _ (at_variable to plain.0) ∙ ap (written top below cells number (top.base + as_variable (bound binding to))) (sym (value_is from plain.1));
         is_store = refl;
         size = λ steps. length-write cells _ _ (at_variable to plain.0);
       }
-  plain_step (Address to of) plain =
+  plain_step old (Address to of) plain =
       record {
         outcome = set_is top below cells number _ _ (at_variable to plain.0);
         is_store = refl;
         size = λ steps. length-write cells _ _ (at_variable to plain.0);
       }
-  plain_step (Load to from) plain =
+  plain_step old (Load to from) plain =
       record {
         outcome = load_is top below cells number _ (cell cells (top.base + variable_under binding from)) (at_variable to plain.0);
         is_store = refl;
         size = λ steps. length-write cells _ _ (at_variable to plain.0);
       }
-  plain_step (Compute to op left right) plain =
+  plain_step old (Compute to op left right) plain =
       let location : ℕ = top.base + as_variable (bound binding to) in
       let inside : location < length cells = at_variable to plain.0 in
       let a : Value = base_value cells top.base (base_under binding left) in
@@ -150,17 +168,16 @@ module _ (width : ℕ) (params : List Param) (binding : Binding) (procs : List P
         is_store = refl;
         size = λ steps. length-write cells _ _ inside;
       }
-  plain_step (Write to from) plain =
-      let held : IsHeld (length cells) (cell cells (top.base + variable_under binding to)) = safe.held _ in
+  plain_step old (Write to from) plain =
       record {
-        outcome = write_is top below cells number _ _ held ∙ ap (λ v. if beq (is_number (cell cells (top.base + variable_under binding to))) false && true then goes_on top below number (update cells (cell cells (top.base + variable_under binding to)) v) else Stuck) (sym (value_is from plain.1));
+        outcome = write_step to from (base_under binding from) (value_is from plain.1);
         is_store = refl;
-        size = size_updated cells _ _ held;
+        size = size_updated cells _ _ (safe.held (top.base + variable_under binding to));
       }
-  plain_step (Entry param) plain = absurd plain
-  plain_step Goto plain = absurd plain
-  plain_step (AnyAssign to) plain = absurd plain
-  plain_step (New to) plain = absurd plain
-  plain_step (Call to arg) plain = absurd plain
-  plain_step (If cond) plain = absurd plain
-  plain_step (Return result) plain = absurd plain
+  plain_step old (Entry param) plain = absurd plain
+  plain_step old Goto plain = absurd plain
+  plain_step old (AnyAssign to) plain = absurd plain
+  plain_step old (New to) plain = absurd plain
+  plain_step old (Call to arg) plain = absurd plain
+  plain_step old (If cond) plain = absurd plain
+  plain_step old (Return result) plain = absurd plain

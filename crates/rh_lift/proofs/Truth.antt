@@ -5,9 +5,10 @@ use Rattle.std.proofs.lemmas.Bool.{and_parts, and_from}
 use Rattle.std.proofs.lemmas.List.Elements.{recursion_from_All}
 use Rattle.std.proofs.lemmas.List.Folds.{list_all-append}
 use Rattle.rh_term.specs.Model.{Model, IsModel}
-use Rattle.rh_oblig.specs.Literal.{TreeLit, TreeClause}
+use Rattle.rh_meaning.specs.Literal.{TreeLit, TreeClause}
+use Rattle.rh_meaning.specs.Denotation.{is_true_in, are_true_in}
 use Rattle.rh_oblig.specs.Hypotheses.{units}
-use Rattle.rh_oblig.specs.Valid.{is_true_in, are_true_in, IsValid}
+use Rattle.rh_oblig.specs.Valid.{IsValid}
 
 or_false : (a : Bool) → (a || false) ≡ a
 or_false true = refl

@@ -1,2 +1,3 @@
-pub mod Template
+pub mod Standing
+pub mod Local
 pub mod Runs

@@ -1,47 +1,45 @@
--- What a program and its rewritten program return.
-use Rattle.std.specs.Prelude.{ℕ, ℤ, ◌≡◌, Bool, true, false, List, Some, slice_get}
-use Rattle.std.specs.List.{AllByRecursion}
-use Rattle.rh_list.specs.Each.{Each}
+-- Whole runs: the known facts hold in every state that reaches their edge, and the rewritten program makes the steps of
+-- the program.
+use Rattle.std.specs.Prelude.{ℕ, ℤ, ◌≡◌, ◌≢◌, Bool, false, IsTrue, List, slice_get}
+use Rattle.std.specs.Option.{option_map_or}
 use Rattle.rh_il.specs.declared.program.Proc.{Proc}
-use Rattle.rh_il.specs.declared.program.Stmt.{Stmt}
-use Rattle.rh_il.specs.declared.program.Stmt.TheVariants.{Call}
 use Rattle.rh_il.specs.declared.value.Value.{Value}
-use Rattle.rh_il.specs.Checks.{IsProgram}
 use Rattle.rh_il.specs.Value.{IsNumber}
-use Rattle.rh_il.specs.Numbers.{operand_numbers}
-use Rattle.rh_il_step.specs.Run.{Returns}
-use Rattle.rh_rule.specs.declared.rule.Rule.{Rule}
 use Rattle.rh_rule.specs.declared.rule.Ruling.{Ruling}
-use Rattle.rh_rule.specs.declared.rule.Ruling.TheVariants.{Admitted}
 use Rattle.rh_rule.specs.declared.schema.Schema.{Schema}
+use Rattle.rh_rule.specs.RuleFiles.{Rules}
 use Rattle.rh_domain.specs.Facts.{Known}
-use Rattle.rh_oblig.specs.Valid.{IsSound}
-use Rattle.rh_transform.specs.Bare.{IsBare}
+use Rattle.rh_domain.specs.declared.fact.FactAt.{FactAt}
+use Rattle.rh_domain.specs.declared.fact.GroundFact.{GroundFact}
+use Rattle.rh_il_step.specs.Run.{Returns, IsReached, Reaches}
+use Rattle.rh_il_step.specs.State.{State}
+use Rattle.rh_il_step.specs.Step.{Stuck, step}
 use Rattle.rh_transform.specs.Rewritten.{rewritten}
+use Rattle.rh_meaning.specs.Holds.{holds}
+use Rattle.rh_lift.specs.Standing.{IsProvedSet}
 
-abbrev pub is_call : Stmt → Bool
-is_call (Call to callee arg) = true
-is_call _ = false
+-- the fact holds in the state, over the variables of its top frame
+abbrev pub fact_holds_in : List Schema → State → GroundFact → Bool
+fact_holds_in schemas state fact = option_map_or (λ schema. holds schema fact.args state) (slice_get schemas fact.schema) false
 
--- the numbers in the statement are of 64 bits, and it is no call
-pub record IsStraight (stmt : Stmt) : Type 0 where
-  pub numbers : AllByRecursion IsNumber (operand_numbers stmt)
-  pub no_call : is_call stmt ≡ false
+-- each known fact holds in every reached state of the program that reaches its edge
+abbrev pub FactsHoldInRuns : Type 0
+FactsHoldInRuns =
+    (file : Rules) (rulings : List Ruling) (procs : List Proc) (known : Known) (state : State) (fact : FactAt)
+    → IsProvedSet file rulings procs known → IsReached procs state → Reaches state fact.proc fact.edge → IsTrue (known fact)
+    → IsTrue (fact_holds_in file.schemas state fact.fact)
 
--- no statement of the program is a call
-abbrev pub AreStraight : List Proc → Type 0
-AreStraight procs = Each (λ proc. Each IsStraight proc.body) procs
+-- from each reached state from which the program steps, the rewritten program makes the same step to the same state, or
+-- returns the same value
+abbrev pub StepsKept : Type 0
+StepsKept =
+    (file : Rules) (rulings : List Ruling) (procs : List Proc) (known : Known) (state : State)
+    → IsProvedSet file rulings procs known → IsReached procs state → step procs state ≢ Stuck
+    → step (rewritten known file.rules rulings procs) state ≡ step procs state
 
--- the rules that are ruled admitted are sound
-abbrev pub AreSound : List Schema → List Rule → List Ruling → Type 0
-AreSound schemas rules rulings =
-    (number : ℕ) (rule : Rule) → slice_get rules number ≡ Some rule → slice_get rulings number ≡ Some Admitted → IsSound schemas rule
-
--- where a program returns a value within so many steps, the program that sound rules rewrite returns
--- it within as many; for programs without calls, and rules without premises and conditions
+-- where a program returns a value within so many steps, the rewritten program returns it within as many
 abbrev pub ReturnsKept : Type 0
 ReturnsKept =
-    (schemas : List Schema) (rules : List Rule) (rulings : List Ruling) (known : Known) (procs : List Proc)
-    → AreSound schemas rules rulings → Each IsBare rules → IsProgram procs → AreStraight procs
-    → (arg : ℤ) (value : Value) (bound : ℕ) → IsNumber arg
-    → Returns procs arg value bound → Returns (rewritten known rules rulings procs) arg value bound
+    (file : Rules) (rulings : List Ruling) (procs : List Proc) (known : Known) (arg : ℤ) (value : Value) (bound : ℕ)
+    → IsProvedSet file rulings procs known → IsNumber arg
+    → Returns procs arg value bound → Returns (rewritten known file.rules rulings procs) arg value bound

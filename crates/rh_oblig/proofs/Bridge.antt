@@ -15,16 +15,17 @@ use Rattle.rh_term.specs.Store.{nothing}
 use Rattle.rh_term.specs.Partition.{HasNoOpenPartition}
 use Rattle.rh_term.specs.Term.{IsTermList}
 use Rattle.rh_term.proofs.Bridge.{goals_hold}
-use Rattle.rh_oblig.specs.Tree.{Tree, Leaf}
-use Rattle.rh_oblig.specs.Literal.{TreeLit, TreeClause}
-use Rattle.rh_oblig.specs.Obligation.{lit_in, clauses_in}
-use Rattle.rh_oblig.specs.TermList.{literal_trees, clause_trees, closed, first_trees, leaves_of, with_trees, term_list}
-use Rattle.rh_oblig.specs.Valid.{are_true_in, is_true_in, IsValid}
-use Rattle.rh_oblig.specs.Sorts.{IsIn, IsSorted}
-use Rattle.rh_oblig.proofs.Trees.{stays_in}
-use Rattle.rh_oblig.proofs.Places.{Extends}
+use Rattle.rh_meaning.specs.Tree.{Tree, Leaf}
+use Rattle.rh_meaning.specs.Literal.{TreeLit, TreeClause, literal_trees, clause_trees}
+use Rattle.rh_meaning.specs.Placed.{lit_in, clauses_in}
+use Rattle.rh_meaning.specs.Denotation.{are_true_in, is_true_in}
+use Rattle.rh_meaning.specs.Sorts.{IsIn, IsSorted}
+use Rattle.rh_meaning.proofs.Trees.{stays_in}
+use Rattle.rh_meaning.proofs.Places.{Extends}
+use Rattle.rh_meaning.proofs.Denotes.{Stands, clauses_denote, clauses_within, lit_denotes, lit_within}
+use Rattle.rh_oblig.specs.TermList.{closed, first_trees, leaves_of, with_trees, term_list}
+use Rattle.rh_oblig.specs.Valid.{IsValid}
 use Rattle.rh_oblig.proofs.Walks.{with_trees_has, closed_extends}
-use Rattle.rh_oblig.proofs.Denotes.{Stands, clauses_denote, clauses_within, lit_denotes, lit_within}
 
 -- axioms over a list of terms: within the list, and true in every model
 pub record AreAxioms (terms : List Term) (axioms : List Clause) : Type 0 where

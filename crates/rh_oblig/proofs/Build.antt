@@ -1,24 +1,33 @@
 -- How the code builds the list of terms and the clauses of an obligation.
-use Rattle.std.proofs.Common.{ℕ, ◌≡◌, ◌<◌, ◌+◌, List, [], ◌∷◌, ◌++◌, map, length, drop, take, get_or, add-one, refl, ap, sym, subst, ◌∙◌}
+use Rattle.std.proofs.Common.{ℕ, ◌≡◌, ◌<◌, ◌≤◌, ◌^◌, arith, ◌+◌, List, [], ◌∷◌, ◌++◌, map, length, drop, take, get_or, add-one, refl, ap, sym, subst, ◌∙◌}
 use Rattle.std.specs.Prelude.{fold}
 use Rattle.std.specs.List.{flat_map, AllByRecursion}
 use Rattle.std.proofs.Math.Seq.{drop-cons}
 use Rattle.std.proofs.lemmas.List.{map-append, take_more}
+use Rattle.std.proofs.lemmas.List.Sums.{sum_by-append, sum_by-cons}
 use Rattle.rh_list.proofs.Appended.{apart}
-use Rattle.rh_oblig.specs.Obligation.{clause_in, clauses_in}
+use Rattle.rh_meaning.specs.Placed.{clause_in, clauses_in}
 use Rattle.rh_term.specs.declared.term.Term.{Term}
-use Rattle.rh_oblig.specs.declared.literal.TreeLit.{TreeLit as BuiltLit}
-use Rattle.rh_oblig.specs.declared.hypotheses.TreeClause.{TreeClause as BuiltClause}
-use Rattle.rh_oblig.specs.Sorts.{AreFit, IsSorted}
-use Rattle.rh_oblig.specs.TermList.{clause_trees, literal_trees, with_trees}
-use Rattle.rh_oblig.specs.Tree.{Tree, Leaf, with_term, with_tree}
-use Rattle.rh_oblig.specs.View.{clauses_of, lit_of, lits_of}
+use Rattle.rh_meaning.specs.declared.literal.TreeLit.{TreeLit as BuiltLit}
+use Rattle.rh_meaning.specs.declared.literal.TreeClause.{TreeClause as BuiltClause}
+use Rattle.rh_meaning.proofs.Trees.{with_tree_few}
+use Rattle.rh_meaning.specs.Sorts.{IsSorted, tree_size}
+use Rattle.rh_meaning.specs.Literal.{clause_trees, literal_trees}
+use Rattle.rh_meaning.specs.Tree.{Tree, Leaf, with_term, with_tree}
+use Rattle.rh_meaning.specs.View.{clauses_of, lit_of, lits_of}
+use Rattle.rh_meaning.proofs.Sorted.{leaf_parts}
+use Rattle.rh_oblig.specs.TermList.{AreFit, with_trees}
+use Rattle.rh_oblig.specs.Few.{trees_size}
 use Rattle.rh_oblig.proofs.RuleTrees.{IsSortedLeaf}
-use Rattle.rh_oblig.proofs.Sorted.{leaf_parts}
 
 pub with_trees_both : (terms : List Term) (a b : List Tree) → with_trees terms (a ++ b) ≡ with_trees (with_trees terms a) b
 with_trees_both terms [] b = refl
 with_trees_both terms (tree ∷ a) b = with_trees_both (with_tree terms tree) a b
+
+-- a list with trees has at most their terms more
+pub with_trees_few : (terms : List Term) (trees : List Tree) → length (with_trees terms trees) ≤ length terms + trees_size trees
+with_trees_few terms [] = omega arith
+with_trees_few terms (tree ∷ trees) = omega (arith, with_tree_few terms tree, with_trees_few (with_tree terms tree) trees, sum_by-cons tree_size tree trees)
 
 -- leaves are put into a list one by one
 pub with_leaves : (terms leaves : List Term) → with_trees terms (map Leaf leaves) ≡ fold with_term terms leaves
@@ -46,13 +55,20 @@ clauses_cut clauses i d within =
 pub record Adds (old new : List Term) (whole rest : List Tree) : Type 0 where
   pub same : with_trees new rest ≡ with_trees old whole
   pub sorted : AllByRecursion IsSorted rest
+  pub room : length new + trees_size rest < 2 ^ 32
 
-pub adds_piece : (old new : List Term) (whole piece rest : List Tree) → whole ≡ piece ++ rest → new ≡ with_trees old piece → AllByRecursion IsSorted whole → Adds old new whole rest
-adds_piece old new whole piece rest cut is sorted =
+pub adds_piece : (old new : List Term) (whole piece rest : List Tree) → whole ≡ piece ++ rest → new ≡ with_trees old piece → AllByRecursion IsSorted whole
+    → length old + trees_size whole < 2 ^ 32 → Adds old new whole rest
+adds_piece old new whole piece rest cut is sorted room =
     record {
       same = ap (λ terms. with_trees terms rest) is ∙ sym (with_trees_both old piece rest) ∙ ap (with_trees old) (sym cut);
       sorted = (apart IsSorted piece rest (subst (AllByRecursion IsSorted) cut sorted)).1;
+      room = omega (arith, ap length is, with_trees_few old piece, ap trees_size cut, sum_by-append tree_size piece rest, room);
     }
+
+-- a piece of the trees has room where all of them have
+pub piece_room : (used : ℕ) (whole piece rest : List Tree) → whole ≡ piece ++ rest → used + trees_size whole < 2 ^ 32 → used + trees_size piece < 2 ^ 32
+piece_room used whole piece rest cut room = omega (arith, ap trees_size cut, sum_by-append tree_size piece rest, room)
 
 -- one more clause is placed
 pub clauses_more : (terms : List Term) (clauses : List BuiltClause) (i : ℕ) (d : BuiltClause) → i < length clauses

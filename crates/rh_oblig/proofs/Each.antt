@@ -13,13 +13,12 @@ use Rattle.rh_rule.specs.declared.rule.Rule.{Rule}
 use Rattle.rh_rule.specs.declared.schema.Schema.{Schema}
 use Rattle.rh_term.specs.declared.term.Term.{Term}
 use Rattle.rh_term.specs.declared.clause.Clause.{Clause}
-use Rattle.rh_oblig.specs.declared.literal.TreeLit.{TreeLit as BuiltLit}
+use Rattle.rh_meaning.specs.declared.literal.TreeLit.{TreeLit as BuiltLit}
+use Rattle.rh_meaning.specs.Literal.{TreeLit, TreeClause}
+use Rattle.rh_meaning.specs.View.{lit_of, lits_of}
 use Rattle.rh_oblig.specs.Hypotheses.{hypotheses}
-use Rattle.rh_oblig.specs.Literal.{TreeLit, TreeClause}
 use Rattle.rh_oblig.specs.Obligation.{clauses_for, first_excess, obligation_clauses, terms_of}
-use Rattle.rh_oblig.specs.Sorts.{IsSorted}
-use Rattle.rh_oblig.specs.TermList.{literal_trees, term_list}
-use Rattle.rh_oblig.specs.View.{lit_of, lits_of}
+use Rattle.rh_oblig.specs.TermList.{term_list}
 
 -- the obligation of a goal
 abbrev pub part_for : List Schema → Rule → TreeLit → List Term × List Clause
@@ -80,12 +79,10 @@ excess_here schemas rule goals i d within none large =
     ∙ excess_apart schemas rule (lits_of (take i goals)) (lit_of (get_or goals i d) ∷ lits_of (drop (suc i) goals)) none
     ∙ picked (length (terms_of schemas rule (lit_of (get_or goals i d)))) (sizes schemas rule (lits_of (drop (suc i) goals))) large
 
--- the trees of each goal are sorted
-pub sorted_at : (goals : List BuiltLit) (i : ℕ) (d : BuiltLit) → i < length goals
-    → AllByRecursion (λ goal. AllByRecursion IsSorted (literal_trees goal)) (lits_of goals) → AllByRecursion IsSorted (literal_trees (lit_of (get_or goals i d)))
-sorted_at goals i d within all =
-    let sorted : TreeLit → Type 0 = λ goal. AllByRecursion IsSorted (literal_trees goal) in
-    (apart sorted (lits_of (take i goals)) (lit_of (get_or goals i d) ∷ lits_of (drop (suc i) goals)) (subst (AllByRecursion sorted) (cut_at goals i d within) all)).1.0
+-- what each goal has
+pub at_goal : (P : TreeLit → Type 0) (goals : List BuiltLit) (i : ℕ) (d : BuiltLit) → i < length goals → AllByRecursion P (lits_of goals) → P (lit_of (get_or goals i d))
+at_goal P goals i d within all =
+    (apart P (lits_of (take i goals)) (lit_of (get_or goals i d) ∷ lits_of (drop (suc i) goals)) (subst (AllByRecursion P) (cut_at goals i d within) all)).1.0
 
 pub err_is : {T E : Type 0} → (result : Result T E) (given told : E) → IsErrAnd result (λ fault. fault ≡ given) → result ≡ Err told → given ≡ told
 err_is (Ok value) given told same is = elim same [ ]

@@ -3,10 +3,10 @@ use Rattle.std.proofs.Common.{◌≡◌, true, List, length, sym, subst}
 use Rattle.std.specs.List.{flat_map, AllByRecursion}
 use Rattle.rh_axioms.specs.Rows.{all_schemas}
 use Rattle.rh_axioms.proofs.Within.{instances_fit}
+use Rattle.rh_meaning.specs.Literal.{TreeLit, TreeClause, clause_trees, literal_trees}
+use Rattle.rh_meaning.specs.Sorts.{IsSorted}
 use Rattle.rh_oblig.specs.Obligation.{obligation_clauses}
-use Rattle.rh_oblig.specs.Literal.{TreeLit, TreeClause}
-use Rattle.rh_oblig.specs.Sorts.{IsSorted}
-use Rattle.rh_oblig.specs.TermList.{clause_trees, literal_trees, term_list}
+use Rattle.rh_oblig.specs.TermList.{term_list}
 use Rattle.rh_oblig.proofs.Bridge.{obligation_within}
 use Rattle.rh_oblig.proofs.RuleTrees.{trees_sorted}
 use Rattle.rh_rule.specs.declared.rule.Form.{Form}

@@ -1,20 +1,20 @@
 -- Lists of terms stay such lists where trees of the right sorts are put into them, and no update in them
 -- is over another.
-use Rattle.std.proofs.Common.{ℕ, zero, suc, ◌≡◌, ◌<◌, Bool, true, false, ◌==◌, if◌then◌else◌, List, [], ◌∷◌, ◌++◌, length, Option, Some, None, refl, ap, sym, subst, ◌∙◌, arith, inl, inr}
+use Rattle.std.proofs.Common.{ℕ, zero, suc, ◌≡◌, Bool, true, false, ◌==◌, if◌then◌else◌, List, [], ◌∷◌, ◌++◌, length, Some, refl, ap, sym, subst, ◌∙◌, inl, inr}
 use Rattle.std.specs.Prelude.{slice_get}
 use Rattle.std.specs.List.{AllByRecursion}
 use Rattle.std.specs.Option.{option_map_or}
 use Rattle.std.proofs.lemmas.Bool.{eqb-true}
 use Rattle.rh_term.specs.declared.term.Term.{Term}
-use Rattle.rh_term.specs.declared.term.Term.TheVariants.{Num, Cst, Addr, Any, Fresh, Answer, Before, After, Start, Sel, Upd, Op as Computed, Kind, IsNum, IsPtr, Una, Yes}
+use Rattle.rh_term.specs.declared.term.Term.TheVariants.{Sel, Upd, Op as Computed, Kind, Una}
 use Rattle.rh_term.specs.Term.{is_at, is_store_term, HasNumber, HasParts, IsTermList}
 use Rattle.rh_term.proofs.Listed.{grown, last_or_before}
-use Rattle.rh_oblig.specs.Sorts.{IsIn, IsSorted, is_leaf, is_store_tree}
+use Rattle.rh_meaning.specs.Sorts.{IsIn, IsSorted, is_leaf}
+use Rattle.rh_meaning.specs.Tree.{Tree, Leaf, Select, Update, Compute, KindOf, Unheld, place_of, tree_place, with_term, with_tree}
+use Rattle.rh_meaning.proofs.Places.{place_found}
+use Rattle.rh_meaning.proofs.Sorted.{absent, leaf_parts, parts_here, parts_longer, store_at_place, value_at_place}
+use Rattle.rh_meaning.proofs.Trees.{stays_in, with_tree_has}
 use Rattle.rh_oblig.specs.TermList.{with_trees}
-use Rattle.rh_oblig.specs.Tree.{Tree, Leaf, Select, Update, Compute, KindOf, Unheld, place_of, tree_place, with_term, with_tree}
-use Rattle.rh_oblig.proofs.Places.{Extends, place_found}
-use Rattle.rh_oblig.proofs.Sorted.{absent, leaf_parts, parts_here, parts_longer, store_at_place, value_at_place}
-use Rattle.rh_oblig.proofs.Trees.{stays_in, with_tree_has}
 
 abbrev pub is_update : Term → Bool
 is_update (Upd store address value) = true

@@ -33,16 +33,15 @@ use Rattle.rh_rule.specs.Operands.{operands, term_operands}
 use Rattle.rh_rule.specs.Params.{kind_of}
 use Rattle.rh_rule.specs.Ranges.{AtomNumbersFit, ConclusionNumbersFit, FitsI64, MeaningNumberFits, NumberFits, NumbersFit, RuleNumbersFit, SchemaNumbersFit, SideNumbersFit, TermNumbersFit, UseNumbersFit}
 use Rattle.rh_term.specs.declared.term.Term.{Term}
-use Rattle.rh_term.specs.Term.{HasParts}
 use Rattle.rh_term.specs.declared.term.Term.TheVariants.{Num, Any, Fresh, Answer, After, Start, Yes, IsNum, IsPtr}
+use Rattle.rh_meaning.specs.Literal.{TreeLit, TreeClause, binding_tree, differs, equals, number_tree, operand, pointer_tree, unheld_tree, value_tree, clause_trees, literal_trees}
+use Rattle.rh_meaning.specs.Meaning.{address_at, arg_at, atom_literal, fact_literals, meaning_operand, meaning_tree}
+use Rattle.rh_meaning.specs.Sorts.{IsSorted, is_leaf, is_store_tree, is_value_tree}
+use Rattle.rh_meaning.specs.Tree.{Tree, Leaf, Select, Update, Compute, Unheld}
 use Rattle.rh_oblig.specs.Goals.{goals, conclusion_goals, template_goals}
 use Rattle.rh_oblig.specs.Hypotheses.{call_clauses_of, conclusion_clauses, entry_clauses, hypotheses, local_clause, new_clauses, own_clauses, side_literal, side_operand, side_tree, slot_literals, units, var_metas}
-use Rattle.rh_oblig.specs.Literal.{TreeLit, TreeClause, binding_tree, differs, equals, number_tree, operand, pointer_tree, unheld_tree, value_tree}
-use Rattle.rh_oblig.specs.Meaning.{address_at, arg_at, atom_literal, fact_literals, meaning_operand, meaning_tree}
-use Rattle.rh_oblig.specs.Sorts.{IsSorted, is_leaf, is_store_tree, is_value_tree}
 use Rattle.rh_oblig.specs.Statement.{address, before, operator_literals, step_literals, store_after, value, variable}
-use Rattle.rh_oblig.specs.TermList.{binding_leaf, clause_trees, first_leaf, first_trees, leaves_of, literal_trees}
-use Rattle.rh_oblig.specs.Tree.{Tree, Leaf, Select, Update, Compute, Unheld}
+use Rattle.rh_oblig.specs.TermList.{binding_leaf, first_leaf, first_trees, leaves_of}
 
 -- a tree of the right sorts that stands for a value
 record IsValue (tree : Tree) : Type 0 where

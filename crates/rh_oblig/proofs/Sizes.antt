@@ -1,8 +1,8 @@
 -- The obligations of a rule of a rule file are few, and none has 2^32 clauses or a clause of 2^32 literals.
-use Rattle.std.proofs.Common.{ℕ, zero, suc, ◌≡◌, ◌<◌, ◌≤◌, ◌+◌, ◌*◌, ◌^◌, Bool, true, false, not, ◌==◌, List, [], ◌∷◌, ◌++◌, map, length, get_or, filter, Option, Some, None, refl, ap, sym, subst, ◌∙◌, arith, length-append}
+use Rattle.std.proofs.Common.{ℕ, suc, ◌≡◌, ◌<◌, ◌≤◌, ◌+◌, ◌*◌, ◌^◌, Bool, true, false, not, ◌==◌, List, [], ◌∷◌, ◌++◌, map, length, get_or, filter, Option, Some, None, refl, ap, sym, ◌∙◌, arith, length-append}
 use Rattle.std.proofs.lemmas.Option.{slice_get-get_or}
 use Rattle.std.specs.Prelude.{IfOk, OnOk, Result, Ok, Err, slice_get, if◌then◌else◌}
-use Rattle.std.specs.List.{All, AllByRecursion, flat_map, range_with_len}
+use Rattle.std.specs.List.{AllByRecursion, flat_map, range_with_len}
 use Rattle.std.proofs.lemmas.List.{length-map}
 use Rattle.std.proofs.lemmas.List.Elements.{All-from_recursion}
 use Rattle.std.proofs.lemmas.List.FromFn.{length-range_with_len}
@@ -10,14 +10,14 @@ use Rattle.rh_list.proofs.Appended.{joined}
 use Rattle.rh_axioms.specs.Rows.{all_schemas, instances_of}
 use Rattle.rh_axioms.proofs.Bounds.{IsShort, instances_below, rows_short}
 use Rattle.rh_il.specs.declared.program.Slot.{Slot}
-use Rattle.rh_il.specs.declared.program.Slot.TheVariants.{Out, Then, Else}
+use Rattle.rh_il.specs.declared.program.Slot.TheVariants.{Then, Else}
 use Rattle.rh_il.specs.declared.value.Op.{Op}
-use Rattle.rh_il.specs.declared.value.Op.TheVariants.{Add, Sub, Mul, Less, Equal}
+use Rattle.rh_il.specs.declared.value.Op.TheVariants.{Equal}
 use Rattle.rh_rule.specs.declared.rule.Conclusion.{Conclusion}
 use Rattle.rh_rule.specs.declared.rule.Conclusion.TheVariants.{Fact, Transform}
 use Rattle.rh_rule.specs.declared.rule.FactUse.{FactUse}
 use Rattle.rh_rule.specs.declared.rule.Form.{Form}
-use Rattle.rh_rule.specs.declared.rule.Form.TheVariants.{Entry, Goto, Skip, AnyAssign, Assign, Address, Load, Compute as AComputation, Write, New, Call, If, Return}
+use Rattle.rh_rule.specs.declared.rule.Form.TheVariants.{Entry, Compute as AComputation, New, Call, If, Return}
 use Rattle.rh_rule.specs.declared.rule.Rule.{Rule}
 use Rattle.rh_rule.specs.declared.schema.Param.{Param}
 use Rattle.rh_rule.specs.declared.schema.Schema.{Schema}
@@ -28,15 +28,16 @@ use Rattle.rh_term.specs.declared.clause.Clause.{Clause}
 use Rattle.rh_term.specs.declared.term.Term.{Term}
 use Rattle.rh_term.specs.declared.term.Term.TheVariants.{Fresh, Start}
 use Rattle.rh_term.specs.Laws.{denial}
+use Rattle.rh_meaning.specs.Literal.{TreeLit, TreeClause, differs, equals, unheld_tree}
+use Rattle.rh_meaning.specs.Meaning.{atom_literal, fact_literals}
+use Rattle.rh_meaning.specs.Placed.{clause_in, clauses_in, lit_in}
+use Rattle.rh_meaning.specs.Tree.{Tree, Leaf}
 use Rattle.rh_oblig.specs.Goals.{conclusion_goals, goals, template_goals}
-use Rattle.rh_oblig.specs.Hypotheses.{call_clauses_of, conclusion_clauses, entry_clauses, hypotheses, is_var, local_clause, new_clauses, own_clauses, side_literal, slot_literals, units, var_metas}
-use Rattle.rh_oblig.specs.Literal.{TreeLit, TreeClause, differs, equals, unheld_tree}
-use Rattle.rh_oblig.specs.Meaning.{atom_literal, fact_literals}
-use Rattle.rh_oblig.specs.Obligation.{clause_in, clauses_in, lit_in, obligation_clauses, obligations_of, parts_of, AreSmallClauses}
+use Rattle.rh_oblig.specs.Hypotheses.{call_clauses_of, conclusion_clauses, hypotheses, is_var, local_clause, own_clauses, side_literal, slot_literals, units, var_metas}
+use Rattle.rh_oblig.specs.Obligation.{obligation_clauses, obligations_of, parts_of, AreSmallClauses}
 use Rattle.rh_term.specs.declared.obligation.Obligation.{Obligation}
-use Rattle.rh_oblig.specs.Sorts.{AreFewClauses}
+use Rattle.rh_oblig.specs.Few.{AreFewClauses}
 use Rattle.rh_oblig.specs.Statement.{address, before, operator_literals, step_literals, store_after, value}
-use Rattle.rh_oblig.specs.Tree.{Tree, Leaf}
 use Rattle.rh_oblig.proofs.Each.{part_for}
 use Rattle.rh_oblig.proofs.RuleTrees.{all_flat, all_mapped}
 

@@ -1,5 +1,5 @@
 -- Obligations without an open partition hold.
-use Rattle.std.proofs.Common.{◌≡◌, ℕ, zero, suc, ◌<◌, ◌*◌, List, [], ◌∷◌, Some, length, get_or, subst}
+use Rattle.std.proofs.Common.{◌≡◌, ℕ, zero, suc, ◌*◌, List, [], ◌∷◌, Some, length, get_or, subst}
 use Rattle.std.specs.Prelude.{slice_get}
 use Rattle.std.specs.List.{AllByRecursion}
 use Rattle.std.proofs.lemmas.Option.{none-some, same_Some, slice_get-get_or}
@@ -12,14 +12,14 @@ use Rattle.rh_rule.specs.declared.rule.Rule.{Rule}
 use Rattle.rh_rule.specs.declared.schema.Schema.{Schema}
 use Rattle.rh_term.specs.declared.term.Term.{Term}
 use Rattle.rh_term.specs.Term.{IsTermList}
+use Rattle.rh_meaning.specs.Literal.{TreeLit, literal_trees}
+use Rattle.rh_meaning.specs.Sorts.{IsSorted}
+use Rattle.rh_meaning.specs.Tree.{Tree}
 use Rattle.rh_oblig.specs.Goals.{goals}
 use Rattle.rh_oblig.specs.Hypotheses.{hypotheses}
 use Rattle.rh_oblig.specs.Laws.{AdmittedAreSound, ShownAreValid, TermListsAreClosed}
-use Rattle.rh_oblig.specs.Literal.{TreeLit}
 use Rattle.rh_oblig.specs.Obligation.{IsShown, terms_of}
-use Rattle.rh_oblig.specs.Sorts.{IsSorted}
-use Rattle.rh_oblig.specs.TermList.{IsClosed, first_trees, literal_trees, with_trees}
-use Rattle.rh_oblig.specs.Tree.{Tree}
+use Rattle.rh_oblig.specs.TermList.{IsClosed, first_trees, with_trees}
 use Rattle.rh_oblig.specs.Valid.{IsValid}
 use Rattle.rh_oblig.proofs.Bridge.{AreAxioms, valid}
 use Rattle.rh_oblig.proofs.Kept.{kept_trees, none_kept}

@@ -4,11 +4,10 @@ use Rattle.std.proofs.Common.{ℕ, zero, suc, ◌≡◌, ◌<◌, ◌≤◌, ◌
 use Rattle.std.specs.Prelude.{fold, slice_get, int_lt, ℤ}
 use Rattle.std.specs.List.{AllByRecursion}
 use Rattle.std.specs.Option.{option_map_or}
-use Rattle.std.proofs.Math.Seq.{drop-cons}
 use Rattle.std.proofs.lemmas.Bool.{cases_order}
 use Rattle.std.proofs.lemmas.Int.{SFits-int_wrap}
 use Rattle.std.proofs.lemmas.List.{drop-append-le}
-use Rattle.std.proofs.lemmas.Option.{none-some, same_Some, slice_get-get_or, slice_get_within}
+use Rattle.std.proofs.lemmas.Option.{none-some, same_Some, slice_get_within}
 use Rattle.std.specs.Ordering.{int_eq}
 use mir.Syntax.{w64}
 use Rattle.rh_il.specs.Op.{number_of, truth}
@@ -16,15 +15,15 @@ use Rattle.rh_il.specs.Value.{IsNumber}
 use Rattle.rh_il.specs.declared.value.Op.{Op as Operator}
 use Rattle.rh_il.specs.declared.value.Op.TheVariants.{Add, Sub, Mul, Less, Equal}
 use Rattle.rh_term.specs.declared.term.Term.{Term}
-use Rattle.rh_term.specs.declared.term.Term.TheVariants.{Num, Cst, Addr, Any, Fresh, Answer, Before, After, Start, Sel, Upd, Op as Computed, Kind, IsNum, IsPtr, Una, Yes}
-use Rattle.rh_term.specs.Term.{is_store_term, is_value_term, HasNumber, HasParts, IsTermList}
-use Rattle.rh_oblig.specs.Sorts.{AreFit, IsIn}
-use Rattle.rh_oblig.specs.TermList.{closed, folded, read_below, terms_from, unheld_below, walked, IsClosed}
-use Rattle.rh_oblig.specs.Tree.{Leaf, place_of, with_term}
+use Rattle.rh_term.specs.declared.term.Term.TheVariants.{Num, Cst, Addr, Any, Fresh, Answer, Sel, Upd, Op as Computed, Kind, Una}
+use Rattle.rh_term.specs.Term.{is_store_term, is_value_term, HasNumber, HasParts}
+use Rattle.rh_meaning.specs.Sorts.{IsIn}
+use Rattle.rh_meaning.specs.Tree.{Leaf, place_of, with_term}
+use Rattle.rh_meaning.proofs.Places.{with_term_has}
+use Rattle.rh_meaning.proofs.Sorted.{parts_here}
+use Rattle.rh_meaning.proofs.Trees.{stays_in}
+use Rattle.rh_oblig.specs.TermList.{AreFit, closed, folded, read_below, terms_from, unheld_below, walked, IsClosed}
 use Rattle.rh_oblig.proofs.Kept.{get_same, is_update, is_update_at, update_same, fit_longer, kept_more, IsFit, IsFlat, IsKept}
-use Rattle.rh_oblig.proofs.Places.{Extends, with_term_has}
-use Rattle.rh_oblig.proofs.Sorted.{parts_here, parts_in, parts_longer}
-use Rattle.rh_oblig.proofs.Trees.{stays_in}
 use Rattle.rh_oblig.proofs.Walks.{from_fits, walked_none, walked_some}
 
 -- ---- what a term costs: its own turn, and those of the terms to which it may lead

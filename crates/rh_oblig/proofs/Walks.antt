@@ -1,5 +1,5 @@
 -- The list with all terms to which its terms lead.
-use Rattle.std.proofs.Common.{ℕ, zero, suc, ◌≡◌, ◌+◌, ◌*◌, true, List, [], ◌∷◌, length, drop, get_or, add-one, arith, ◌<◌, ◌-◌, Option, Some, None, refl, ap, sym, subst, ◌∙◌}
+use Rattle.std.proofs.Common.{ℕ, zero, suc, ◌≡◌, ◌+◌, ◌*◌, true, List, [], ◌∷◌, length, drop, get_or, add-one, arith, length-append, ◌<◌, ◌≤◌, ◌-◌, Option, Some, None, refl, ap, sym, subst, ◌∙◌}
 use Rattle.std.specs.Prelude.{slice_get, fold}
 use Rattle.std.specs.List.{AllByRecursion}
 use Rattle.std.proofs.Math.Seq.{drop-cons}
@@ -7,12 +7,12 @@ use Rattle.rh_il.specs.declared.value.Op.{Op as Operator}
 use Rattle.rh_term.specs.declared.term.Term.{Term}
 use Rattle.rh_term.specs.declared.term.Term.TheVariants.{Num, Cst, Addr, Any, Fresh, Answer, Before, After, Start, Sel, Upd, Op as Computed, Kind, IsNum, IsPtr, Una, Yes}
 use Rattle.rh_term.specs.Term.{is_value_term, is_at, HasParts, IsTermList}
-use Rattle.rh_oblig.specs.Tree.{Tree, with_term, with_tree}
-use Rattle.rh_oblig.specs.TermList.{with_trees, folded, read_below, unheld_below, terms_from, walked, closed}
-use Rattle.rh_oblig.proofs.Places.{Extends, extends_itself, extends_further, with_term_has}
-use Rattle.rh_oblig.specs.Sorts.{AreFit, IsIn}
-use Rattle.rh_oblig.proofs.Trees.{stays_in, with_tree_has}
-use Rattle.rh_oblig.proofs.Sorted.{at_place, parts_here, parts_in}
+use Rattle.rh_meaning.specs.Tree.{Tree, with_term, with_tree}
+use Rattle.rh_meaning.proofs.Places.{Extends, extends_itself, extends_further, with_term_has}
+use Rattle.rh_meaning.specs.Sorts.{IsIn}
+use Rattle.rh_meaning.proofs.Trees.{stays_in, with_tree_has}
+use Rattle.rh_meaning.proofs.Sorted.{at_place, parts_here, parts_in}
+use Rattle.rh_oblig.specs.TermList.{with_trees, folded, read_below, unheld_below, terms_from, walked, closed, AreFit}
 
 -- ---- the trees of an obligation
 
@@ -77,6 +77,25 @@ from_fits terms place IsNum list stands = tt
 from_fits terms place IsPtr list stands = tt
 from_fits terms place Yes list stands = tt
 
+folded_few : (op : Operator) (left right : Option Term) → length (folded op left right) ≤ 1
+folded_few op (Some (Num a)) (Some (Num b)) = omega arith
+folded_few op left right = omega arith
+
+read_few : (below : Option Term) (address : ℕ) → length (read_below below address) ≤ 1
+read_few (Some (Upd store at value)) address = omega arith
+read_few below address = omega arith
+
+unheld_few : (below : Option Term) (value : ℕ) → length (unheld_below below value) ≤ 1
+unheld_few (Some (Upd store at value)) held = omega arith
+unheld_few below held = omega arith
+
+-- a term leads to two others at most
+pub from_few : (terms : List Term) (place : ℕ) (term : Term) → length (terms_from terms place term) ≤ 2
+from_few terms place (Sel store address) = omega (arith, read_few (slice_get terms store) address)
+from_few terms place (Computed op left right) = omega (arith, folded_few op (slice_get terms left) (slice_get terms right))
+from_few terms place (Una store value) = omega (arith, unheld_few (slice_get terms store) value)
+from_few terms place _ = omega arith
+
 -- they stay so where the list grows
 pub fits_longer : (old new : List Term) (others : List Term) → Extends old new → AreFit old others → AreFit new others
 fits_longer old new [] grown fits = tt
@@ -98,6 +117,11 @@ walked_step turns on terms place (Some term) =
 pub walked_extends : (turns : ℕ) (terms : List Term) (place : ℕ) → Extends terms (walked turns terms place)
 walked_extends zero terms place = extends_itself terms
 walked_extends (suc turns) terms place = walked_step turns (walked_extends turns) terms place (slice_get terms place)
+
+pub walked_longer : (turns : ℕ) (terms : List Term) (place : ℕ) → length terms ≤ length (walked turns terms place)
+walked_longer turns terms place =
+    let grown : Extends terms (walked turns terms place) = walked_extends turns terms place in
+    omega (arith, ap length grown.is, length-append terms grown.more)
 
 pub closed_extends : (terms : List Term) → Extends terms (closed terms)
 closed_extends terms = walked_extends (4 * length terms) terms 0

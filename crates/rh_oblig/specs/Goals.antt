@@ -7,8 +7,8 @@ use Rattle.rh_rule.specs.declared.rule.Form.TheVariants.{Call, If, Return}
 use Rattle.rh_rule.specs.declared.rule.Rule.{Rule}
 use Rattle.rh_rule.specs.declared.schema.Param.{Param}
 use Rattle.rh_rule.specs.declared.schema.Schema.{Schema}
-use Rattle.rh_oblig.specs.Literal.{TreeLit, equals}
-use Rattle.rh_oblig.specs.Meaning.{fact_literals}
+use Rattle.rh_meaning.specs.Literal.{TreeLit, equals}
+use Rattle.rh_meaning.specs.Meaning.{fact_literals}
 use Rattle.rh_oblig.specs.Statement.{address, value, step_literals, store_after}
 
 -- that the template does what the statement does. It calls with the same destination and argument, or

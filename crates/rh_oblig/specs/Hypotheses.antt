@@ -20,9 +20,9 @@ use Rattle.rh_rule.specs.declared.schema.Param.{Param}
 use Rattle.rh_rule.specs.Params.{kind_of}
 use Rattle.rh_rule.specs.declared.schema.Schema.{Schema}
 use Rattle.rh_term.specs.declared.term.Term.TheVariants.{Num, Any, Fresh, Answer, After, Start, Yes}
-use Rattle.rh_oblig.specs.Tree.{Tree, Leaf, Select, Compute, Unheld}
-use Rattle.rh_oblig.specs.Literal.{TreeLit, TreeClause, equals, differs, pointer_tree, unheld_tree, binding_tree}
-use Rattle.rh_oblig.specs.Meaning.{fact_literals}
+use Rattle.rh_meaning.specs.Tree.{Tree, Leaf, Select, Compute, Unheld}
+use Rattle.rh_meaning.specs.Literal.{TreeLit, TreeClause, equals, differs, pointer_tree, unheld_tree, binding_tree}
+use Rattle.rh_meaning.specs.Meaning.{fact_literals}
 use Rattle.rh_oblig.specs.Statement.{before, address, variable, value, step_literals}
 
 -- an operand of a side condition: variables are compared as such, and so by their addresses

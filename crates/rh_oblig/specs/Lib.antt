@@ -1,13 +1,9 @@
-pub mod Tree
-pub mod Literal
-pub mod Meaning
 pub mod Statement
 pub mod Hypotheses
 pub mod Goals
 pub mod TermList
+pub mod Few
 pub mod Obligation
 pub mod Valid
-pub mod View
-pub mod Sorts
 pub mod Laws
 pub mod Ruling

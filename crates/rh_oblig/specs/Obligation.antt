@@ -1,7 +1,6 @@
 -- Clauses over a list of terms, and the clauses of an obligation.
 use Rattle.std.specs.Prelude.{ℕ, ◌<◌, ◌^◌, nat_lt, List, [], ◌∷◌, ◌++◌, Option, map, find, length}
 use Rattle.rh_term.specs.declared.obligation.Obligation.{Obligation}
-use Rattle.rh_term.specs.declared.clause.Lit.{Lit}
 use Rattle.rh_term.specs.declared.clause.Clause.{Clause}
 use Rattle.rh_term.specs.declared.term.Term.{Term}
 use Rattle.std.specs.List.{All}
@@ -10,21 +9,11 @@ use Rattle.rh_rule.specs.declared.rule.Rule.{Rule}
 use Rattle.rh_rule.specs.declared.schema.Schema.{Schema}
 use Rattle.rh_term.specs.Laws.{denial}
 use Rattle.rh_term.specs.Partition.{HasNoOpenPartition}
+use Rattle.rh_meaning.specs.Literal.{TreeLit, TreeClause}
+use Rattle.rh_meaning.specs.Placed.{clauses_in, lit_in}
 use Rattle.rh_oblig.specs.Goals.{goals}
 use Rattle.rh_oblig.specs.Hypotheses.{hypotheses}
 use Rattle.rh_oblig.specs.TermList.{term_list}
-use Rattle.rh_oblig.specs.Tree.{tree_place}
-use Rattle.rh_oblig.specs.Literal.{TreeLit, TreeClause}
-
--- a literal over trees, with their places in a list of terms
-abbrev pub lit_in : List Term → TreeLit → Lit
-lit_in terms lit = record { left = tree_place terms lit.left; right = tree_place terms lit.right; equal = lit.equal }
-
-abbrev pub clause_in : List Term → TreeClause → Clause
-clause_in terms clause = record { lits = map (lit_in terms) clause }
-
-abbrev pub clauses_in : List Term → List TreeClause → List Clause
-clauses_in terms clauses = map (clause_in terms) clauses
 
 -- what an obligation over a list of terms takes for granted: the hypotheses, and all instances of the
 -- clause schemas

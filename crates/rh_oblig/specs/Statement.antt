@@ -7,8 +7,8 @@ use Rattle.rh_rule.specs.declared.rule.Form.TheVariants.{Entry, AnyAssign, Assig
 use Rattle.rh_rule.specs.declared.rule.RuleBase.{RuleBase}
 use Rattle.rh_rule.specs.declared.schema.Param.{Param}
 use Rattle.rh_term.specs.declared.term.Term.TheVariants.{Addr, Any, Fresh, Answer, Before, After, Start}
-use Rattle.rh_oblig.specs.Tree.{Tree, Leaf, Select, Update, Compute}
-use Rattle.rh_oblig.specs.Literal.{TreeLit, number_tree, pointer_tree, operand}
+use Rattle.rh_meaning.specs.Tree.{Tree, Leaf, Select, Update, Compute}
+use Rattle.rh_meaning.specs.Literal.{TreeLit, number_tree, pointer_tree, operand}
 
 -- the store before the step
 abbrev pub before : Tree

@@ -11,8 +11,9 @@ use Rattle.rh_rule.specs.declared.schema.Param.{Param}
 use Rattle.rh_rule.specs.Params.{kind_of}
 use Rattle.rh_term.specs.declared.term.Term.{Term}
 use Rattle.rh_term.specs.declared.term.Term.TheVariants.{Num, Cst, Addr, Any, Fresh, Answer, Before, Start, Sel, Upd, Op as Computed, Kind, IsNum, IsPtr, Una, Yes}
-use Rattle.rh_oblig.specs.Tree.{Tree, Leaf, place_of, with_term, with_tree}
-use Rattle.rh_oblig.specs.Literal.{TreeLit, TreeClause}
+use Rattle.rh_term.specs.Term.{HasParts}
+use Rattle.rh_meaning.specs.Tree.{Tree, Leaf, place_of, with_term, with_tree}
+use Rattle.rh_meaning.specs.Literal.{TreeLit, TreeClause, literal_trees, clause_trees}
 
 -- what a metavariable of a kind is bound to: the address of a variable, or a number
 abbrev pub binding_leaf : ℕ → MetaKind → Term
@@ -30,12 +31,6 @@ abbrev pub leaves_of : List Param → Form → List Term
 leaves_of params pattern =
     (Num (pos 0) ∷ Num (pos 1) ∷ IsNum ∷ IsPtr ∷ Yes ∷ [])
     ++ map (λ meta. binding_leaf meta (kind_of params meta)) (range_with_len 0 (length params)) ++ first_leaf pattern ∷ []
-
-abbrev pub literal_trees : TreeLit → List Tree
-literal_trees lit = lit.left ∷ lit.right ∷ []
-
-abbrev pub clause_trees : TreeClause → List Tree
-clause_trees clause = flat_map literal_trees clause
 
 -- the trees of an obligation: those that are always there, the hypotheses' and the goal's
 abbrev pub first_trees : List Param → Form → List TreeClause → TreeLit → List Tree
@@ -92,6 +87,10 @@ abbrev pub IsClosed : List Term → Type 0
 IsClosed terms =
     (place : ℕ) (term : Term) → slice_get terms place ≡ Some term
     → AllByRecursion (λ other. place_of terms other < length terms) (terms_from terms place term)
+
+-- terms whose parts stand in the list
+abbrev pub AreFit : List Term → List Term → Type 0
+AreFit terms others = AllByRecursion (HasParts terms) others
 
 -- the list of terms of an obligation
 abbrev pub term_list : List Param → Form → List TreeClause → TreeLit → List Term

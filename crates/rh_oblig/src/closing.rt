@@ -1,17 +1,17 @@
 //! The list with all terms to which its terms lead.
-ghost use Rattle.std.specs.Prelude.{◌≡◌, ◌<◌, ◌^◌, IfOk, IsSome, OnOk, fold, slice_get};
-ghost use Rattle.rh_oblig.specs.Sorts.{AreFit};
-ghost use Rattle.rh_oblig.specs.TermList.{closed, terms_from};
-ghost use Rattle.rh_oblig.specs.Tree.{with_term};
+ghost use Rattle.std.specs.Prelude.{◌≡◌, ◌+◌, ◌<◌, ◌^◌, length, IfOk, IsSome, OnOk, fold, slice_get};
+ghost use Rattle.rh_meaning.specs.Tree.{with_term};
+ghost use Rattle.rh_oblig.specs.TermList.{AreFit, closed, terms_from};
 ghost use Rattle.rh_term.specs.Term.{IsTermList};
 
-use crate::list::add;
 use rh_il::Value;
+use rh_meaning::add;
 use rh_term::{Term, Terms};
 use std::alloc::{AllocError, Global};
 
 /// Puts behind the list all terms to which its terms lead, and those to which these lead.
 pub(crate) fn close(alloc: Global, terms: &mut Terms) -> Result<(), AllocError>
+    requires { length (closed terms.old) + 2 < 2 ^ 32 }
     ensures { OnOk result (terms.new ≡ closed terms.old) }
 {
     for place in 0..4 * u64::from(terms.len()) {
@@ -70,7 +70,8 @@ fn terms_from(alloc: Global, terms: &Terms, place: u32, term: Term) -> Result<Ve
 }
 
 pub(crate) fn add_all(terms: &mut Terms, others: &[Term]) -> Result<(), AllocError>
-    requires { AreFit terms.old others.now }
+    requires fit { AreFit terms.old others.now }
+    requires room { length terms.old + length others.now < 2 ^ 32 }
     ensures { OnOk result (terms.new ≡ fold with_term terms.old others.now) }
 {
     for other in others {

@@ -1,13 +1,12 @@
 //! What has to be shown of a rule: one goal for each of its obligations.
 ghost use Rattle.std.specs.Prelude.{◌≡◌, ◌++◌, [], ◌∷◌, IfOk};
+ghost use Rattle.rh_meaning.specs.Literal.{equals};
+ghost use Rattle.rh_meaning.specs.View.{lit_of, lits_of};
 ghost use Rattle.rh_oblig.specs.Goals.{conclusion_goals, goals, template_goals};
-ghost use Rattle.rh_oblig.specs.Literal.{equals};
 ghost use Rattle.rh_oblig.specs.Statement.{step_literals, store_after, value};
-ghost use Rattle.rh_oblig.specs.View.{lit_of, lits_of};
 
-use crate::literal::{TreeLit, equals};
-use crate::meaning::fact_literals;
 use crate::statement::{address, step_literals, store_after, value};
+use rh_meaning::{TreeLit, equals, fact_literals};
 use rh_rule::{Conclusion, Form, Param, Rule, RuleBase, Schema};
 use std::alloc::{AllocError, Global};
 

@@ -1,26 +1,20 @@
 //! What an obligation of a rule may take for granted.
 ghost use Rattle.std.specs.Prelude.{◌≡◌, ◌++◌, [], ◌∷◌, ◌<◌, ◌^◌, IfOk, OnOk, map, length};
 ghost use Rattle.std.specs.List.{flat_map};
+ghost use Rattle.rh_meaning.specs.Meaning.{fact_literals};
+ghost use Rattle.rh_meaning.specs.View.{tree_of, lit_of, lits_of, clauses_of};
 ghost use Rattle.rh_oblig.specs.Hypotheses.{conclusion_clauses, hypotheses, side_literal, side_operand, side_tree, slot_literals, units};
-ghost use Rattle.rh_oblig.specs.Meaning.{fact_literals};
 ghost use Rattle.rh_oblig.specs.Statement.{before};
-ghost use Rattle.rh_oblig.specs.View.{tree_of, lit_of, lits_of, clauses_of};
 
-use crate::literal::{TreeLit, binding_tree, differs, equals};
-use crate::meaning::fact_literals;
 use crate::own::push_own_clauses;
 use crate::statement::{before, step_literals, value};
-use crate::tree::{Tree, compute};
 use rh_il::Slot;
+use rh_meaning::{
+    Tree, TreeClause, TreeLit, binding_tree, compute, differs, equals, fact_literals,
+};
 use rh_rule::{Conclusion, FactUse, Form, Param, Rule, RuleBase, Schema, Side, SideTerm};
 use rh_term::Term;
 use std::alloc::{AllocError, Global};
-
-/// A clause over trees.
-#[derive(Drop)]
-pub(crate) struct TreeClause {
-    pub(crate) lits: Vec<TreeLit>,
-}
 
 /// The hypotheses of all obligations of a rule, in their order.
 pub(crate) fn hypotheses(

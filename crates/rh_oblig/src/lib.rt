@@ -5,14 +5,10 @@ mod closing;
 mod goals;
 mod hypotheses;
 mod laws;
-mod list;
-mod literal;
-mod meaning;
 mod obligation;
 mod own;
 mod statement;
 mod term_list;
-mod tree;
 
 pub use laws::{admitted_rules_are_sound, shown_obligations_hold, term_lists_are_closed};
 pub use obligation::{MOST_TERMS, ObligFault, obligations};

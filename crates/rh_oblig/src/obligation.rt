@@ -3,17 +3,19 @@ ghost use Rattle.std.specs.Prelude.{ℕ, ◌≡◌, ◌<◌, ◌≤◌, ◌^◌,
 ghost use Rattle.rh_rule.specs.RuleFiles.{IsRuleOf, OfRule};
 ghost use Rattle.rh_term.specs.Laws.{denial};
 ghost use Rattle.std.specs.List.{All, AllByRecursion, flat_map};
-ghost use Rattle.rh_oblig.specs.Obligation.{IsSmall, clause_in, clauses_in, excess, lit_in, obligation_clauses, obligations_of, parts_of};
-ghost use Rattle.rh_oblig.specs.Sorts.{AreFewClauses, IsIn, IsSorted};
-ghost use Rattle.rh_oblig.specs.TermList.{clause_trees, literal_trees, term_list};
-ghost use Rattle.rh_oblig.specs.View.{clauses_of, lit_of, lits_of};
+ghost use Rattle.rh_meaning.specs.Placed.{clause_in, clauses_in, lit_in};
+ghost use Rattle.rh_meaning.specs.Sorts.{IsIn, IsSorted};
+ghost use Rattle.rh_meaning.specs.Literal.{clause_trees, literal_trees};
+ghost use Rattle.rh_meaning.specs.View.{clauses_of, lit_of, lits_of};
+ghost use Rattle.rh_oblig.specs.Obligation.{IsSmall, excess, obligation_clauses, obligations_of, parts_of};
+ghost use Rattle.rh_oblig.specs.Few.{AreFewClauses, trees_size};
+ghost use Rattle.rh_oblig.specs.TermList.{first_trees, term_list};
 
 use crate::goals::goals;
-use crate::hypotheses::{TreeClause, hypotheses};
-use crate::list::tree_place;
-use crate::literal::TreeLit;
+use crate::hypotheses::hypotheses;
 use crate::term_list::term_list;
 use rh_axioms::{instances, standard};
+use rh_meaning::{TreeClause, TreeLit, tree_place};
 use rh_rule::{Rule, RuleFile, Schema};
 use rh_term::{Clause, Lit, Obligation, Terms};
 use std::alloc::{AllocError, AllocFailed, Global};
@@ -98,6 +100,7 @@ fn obligation(
     requires taken { AllByRecursion IsSorted (flat_map clause_trees (clauses_of taken.now)) }
     requires goal { AllByRecursion IsSorted (literal_trees (lit_of goal.now)) }
     requires hypotheses { AreFewClauses (clauses_of taken.now) }
+    requires room { trees_size (first_trees rule.now.params rule.now.pattern (clauses_of taken.now) (lit_of goal.now)) < 2 ^ 29 }
     ensures terms { IfOk result (λ made. made.terms ≡ term_list rule.now.params rule.now.pattern (clauses_of taken.now) (lit_of goal.now)) }
     ensures clauses { IfOk result (λ made. made.clauses ≡ obligation_clauses made.terms (clauses_of taken.now) (lit_of goal.now)) }
     ensures short { IfOk result IsSmall }

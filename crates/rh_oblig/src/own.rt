@@ -1,17 +1,18 @@
 //! What a form of statement says of its own in a propagation rule.
 ghost use Rattle.std.specs.Prelude.{◌≡◌, ◌++◌, ◌<◌, ◌^◌, [], ◌∷◌, IfOk, OnOk, filter, map, not, ◌==◌, length};
 ghost use Rattle.std.specs.List.{flat_map};
+ghost use Rattle.rh_meaning.specs.Literal.{differs};
+ghost use Rattle.rh_meaning.specs.Tree.{Leaf, Unheld};
+ghost use Rattle.rh_meaning.specs.View.{clauses_of, lit_of, tree_of};
 ghost use Rattle.rh_oblig.specs.Hypotheses.{call_clauses_of, entry_clauses, local_clause, new_clauses, own_clauses, var_metas};
-ghost use Rattle.rh_oblig.specs.Literal.{differs};
 ghost use Rattle.rh_oblig.specs.Statement.{address, before};
-ghost use Rattle.rh_oblig.specs.Tree.{Leaf, Unheld};
-ghost use Rattle.rh_oblig.specs.View.{clauses_of, lit_of, tree_of};
 ghost use Rattle.rh_term.specs.declared.term.Term.TheVariants.{Fresh, Yes};
 
-use crate::hypotheses::{TreeClause, push_clause, push_unit};
-use crate::literal::{TreeLit, differs, equals, is_pointer, is_unheld, kind_of};
+use crate::hypotheses::{push_clause, push_unit};
 use crate::statement::{address, before, variable};
-use crate::tree::{Tree, select, unheld};
+use rh_meaning::{
+    Tree, TreeClause, TreeLit, differs, equals, is_pointer, is_unheld, kind_of, select, unheld,
+};
 use rh_rule::{Form, Kind, Param};
 use rh_term::Term;
 use std::alloc::{AllocError, Global};

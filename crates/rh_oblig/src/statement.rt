@@ -1,12 +1,11 @@
 //! What a statement of a form needs to step, and what it makes of the store.
 ghost use Rattle.std.specs.Prelude.{◌≡◌, IfOk};
-ghost use Rattle.rh_oblig.specs.Tree.{Update};
+ghost use Rattle.rh_meaning.specs.Tree.{Update};
+ghost use Rattle.rh_meaning.specs.View.{tree_of, lit_of, lits_of};
 ghost use Rattle.rh_oblig.specs.Statement.{address, before, operator_literals, step_literals, store_after, value, variable};
-ghost use Rattle.rh_oblig.specs.View.{tree_of, lit_of, lits_of};
 
-use crate::literal::{TreeLit, is_number, is_pointer, operand};
-use crate::tree::{Tree, compute, select, update};
 use rh_il::Op;
+use rh_meaning::{Tree, TreeLit, compute, is_number, is_pointer, operand, select, update};
 use rh_rule::{Form, Param, RuleBase};
 use rh_term::Term;
 use std::alloc::{AllocError, Global};

@@ -1,16 +1,16 @@
 //! The list of terms of an obligation.
-ghost use Rattle.std.specs.Prelude.{◌≡◌, ◌<◌, ◌^◌, [], IfOk, OnOk, length, map};
+ghost use Rattle.std.specs.Prelude.{◌≡◌, ◌+◌, ◌<◌, ◌^◌, [], IfOk, OnOk, length, map};
 ghost use Rattle.std.specs.List.{AllByRecursion, flat_map, range_with_len};
 ghost use Rattle.rh_rule.specs.Params.{kind_of};
-ghost use Rattle.rh_oblig.specs.Sorts.{IsSorted};
-ghost use Rattle.rh_oblig.specs.TermList.{binding_leaf, clause_trees, first_leaf, leaves_of, literal_trees, term_list, with_trees};
-ghost use Rattle.rh_oblig.specs.Tree.{Leaf};
-ghost use Rattle.rh_oblig.specs.View.{clauses_of, lit_of, lits_of};
+ghost use Rattle.rh_meaning.specs.Sorts.{IsSorted};
+ghost use Rattle.rh_meaning.specs.Literal.{clause_trees, literal_trees};
+ghost use Rattle.rh_meaning.specs.Tree.{Leaf};
+ghost use Rattle.rh_meaning.specs.View.{clauses_of, lit_of, lits_of};
+ghost use Rattle.rh_oblig.specs.Few.{trees_size};
+ghost use Rattle.rh_oblig.specs.TermList.{binding_leaf, first_leaf, first_trees, leaves_of, term_list, with_trees};
 
 use crate::closing::{add_all, close};
-use crate::hypotheses::TreeClause;
-use crate::list::add_tree;
-use crate::literal::{TreeLit, kind_of};
+use rh_meaning::{TreeClause, TreeLit, add_tree, kind_of};
 use rh_rule::{Form, Kind, Param};
 use rh_term::{Term, Terms};
 use std::alloc::{AllocError, Global};
@@ -26,6 +26,7 @@ pub(crate) fn term_list(
     requires few { length params.now < 2 ^ 32 }
     requires hypotheses { AllByRecursion IsSorted (flat_map clause_trees (clauses_of hypotheses.now)) }
     requires goal { AllByRecursion IsSorted (literal_trees (lit_of goal.now)) }
+    requires room { trees_size (first_trees params.now pattern (clauses_of hypotheses.now) (lit_of goal.now)) < 2 ^ 29 }
     ensures { IfOk result (λ terms. terms ≡ term_list params.now pattern (clauses_of hypotheses.now) (lit_of goal.now)) }
 {
     let mut terms = Terms::new(alloc);
@@ -42,7 +43,8 @@ fn add_leaves(
     params: &[Param],
     pattern: Form,
 ) -> Result<(), AllocError>
-    requires { length params.now < 2 ^ 32 }
+    requires few { length params.now < 2 ^ 32 }
+    requires room { length terms.old + trees_size (map Leaf (leaves_of params.now pattern)) < 2 ^ 32 }
     ensures { OnOk result (terms.new ≡ with_trees terms.old (map Leaf (leaves_of params.now pattern))) }
 {
     add_all(terms, leaves_of(alloc, params, pattern)?.as_slice())
@@ -95,7 +97,8 @@ fn first_leaf(pattern: Form) -> Term
 }
 
 fn add_clauses(terms: &mut Terms, clauses: &[TreeClause]) -> Result<(), AllocError>
-    requires { AllByRecursion IsSorted (flat_map clause_trees (clauses_of clauses.now)) }
+    requires sorted { AllByRecursion IsSorted (flat_map clause_trees (clauses_of clauses.now)) }
+    requires room { length terms.old + trees_size (flat_map clause_trees (clauses_of clauses.now)) < 2 ^ 32 }
     ensures { OnOk result (terms.new ≡ with_trees terms.old (flat_map clause_trees (clauses_of clauses.now))) }
 {
     for clause in clauses {
@@ -105,7 +108,8 @@ fn add_clauses(terms: &mut Terms, clauses: &[TreeClause]) -> Result<(), AllocErr
 }
 
 fn add_lits(terms: &mut Terms, lits: &[TreeLit]) -> Result<(), AllocError>
-    requires { AllByRecursion IsSorted (flat_map literal_trees (lits_of lits.now)) }
+    requires sorted { AllByRecursion IsSorted (flat_map literal_trees (lits_of lits.now)) }
+    requires room { length terms.old + trees_size (flat_map literal_trees (lits_of lits.now)) < 2 ^ 32 }
     ensures { OnOk result (terms.new ≡ with_trees terms.old (flat_map literal_trees (lits_of lits.now))) }
 {
     for lit in lits {
@@ -115,7 +119,8 @@ fn add_lits(terms: &mut Terms, lits: &[TreeLit]) -> Result<(), AllocError>
 }
 
 fn add_lit(terms: &mut Terms, lit: &TreeLit) -> Result<(), AllocError>
-    requires { AllByRecursion IsSorted (literal_trees (lit_of lit.now)) }
+    requires sorted { AllByRecursion IsSorted (literal_trees (lit_of lit.now)) }
+    requires room { length terms.old + trees_size (literal_trees (lit_of lit.now)) < 2 ^ 32 }
     ensures { OnOk result (terms.new ≡ with_trees terms.old (literal_trees (lit_of lit.now))) }
 {
     add_tree(terms, &lit.left)?;

@@ -2,3 +2,4 @@ pub mod Choosing
 pub mod Searching
 pub mod Weight
 pub mod Fixed
+pub mod Denying

@@ -1,5 +1,5 @@
 -- The choice of the search, and what it finds.
-use Rattle.std.specs.Prelude.{◌≡◌, ℕ, ◌<◌, ◌≤◌, ◌^◌, List, [], ◌∷◌, ◌++◌, length, slice_get}
+use Rattle.std.specs.Prelude.{◌≡◌, ℕ, ◌<◌, ◌≤◌, ◌^◌, List, [], ◌∷◌, ◌++◌, length, slice_get, slice_index}
 use Rattle.std.specs.List.{All}
 use Rattle.std.specs.Option.{option_map_or}
 use Rattle.rh_log.specs.declared.log.LogNode.{LogNode}
@@ -23,6 +23,18 @@ pub record IsChosen (clauses : List Clause) (labels : List ℕ) (number : ℕ) :
 -- no clause is false in the partition
 abbrev pub HasNoFalse : List Clause → List ℕ → Type 0
 HasNoFalse clauses labels = (number : ℕ) → ¬ (IsFalseAt clauses labels number)
+
+-- each clause that is false in the partition has an equation
+abbrev pub HasNoFalseDenial : List Clause → List ℕ → Type 0
+HasNoFalseDenial clauses labels = (number : ℕ) → IsFalseAt clauses labels number → 0 < width_at clauses number
+
+-- these are the numbers below a bound of the clauses without an equation, in order
+pub record AreDenials (clauses : List Clause) (bound : ℕ) (denials : List ℕ) : Type 0 where
+  pub within : (i : ℕ) → i < length denials → slice_index denials i < bound
+  pub narrow : (i : ℕ) → i < length denials → width_at clauses (slice_index denials i) ≡ 0
+  pub ascending : (i j : ℕ) → i < j → j < length denials → slice_index denials i < slice_index denials j
+  pub every : (number : ℕ) → number < bound → width_at clauses number ≡ 0
+      → (i : ℕ) × (i < length denials) × (slice_index denials i ≡ number)
 
 -- the chosen clause's node leads from a partition to children that stand before the old branches
 abbrev pub Steps : List Term → List Clause → List ℕ → LogNode → List (List ℕ) → List (List ℕ) → Type 0

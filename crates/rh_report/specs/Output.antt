@@ -15,7 +15,9 @@ use Rattle.rh_rule.specs.declared.rule.Ruling.TheVariants.{Admitted, Refused}
 use Rattle.rh_rule.specs.declared.schema.Schema.{Schema}
 use Rattle.rh_rule.specs.RuleFiles.{Rules}
 use Rattle.rh_rule_text.specs.Text.{joined, schema_name, slot_text}
-use Rattle.rh_domain.specs.Facts.{FactAt, GroundFact, Known, all_facts}
+use Rattle.rh_domain.specs.Facts.{Known, all_facts}
+use Rattle.rh_domain.specs.declared.fact.FactAt.{FactAt}
+use Rattle.rh_domain.specs.declared.fact.GroundFact.{GroundFact}
 use Rattle.rh_ground.specs.Rows.{IsGreatest}
 use Rattle.rh_oblig.specs.Ruling.{IsRuling}
 use Rattle.rh_transform.specs.Rewritten.{rewritten}

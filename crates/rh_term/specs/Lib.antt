@@ -5,3 +5,4 @@ pub mod Model
 pub mod Partition
 pub mod Laws
 pub mod Place
+pub mod Lits

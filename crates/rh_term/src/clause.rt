@@ -1,5 +1,5 @@
 //! Literals and clauses.
-use rh_list::Items;
+use crate::lits::Lits;
 
 /// That two terms, by their places, are equal or differ.
 #[derive(Clone, Copy, Debug, PartialEq, Eq)]
@@ -16,5 +16,5 @@ pub struct Lit {
 #[derive(Drop)]
 pub struct Clause {
     /// The literals, from left to right.
-    pub lits: Items<Lit>,
+    pub lits: Lits,
 }

@@ -6,12 +6,14 @@
 
 mod clause;
 mod laws;
+mod lits;
 mod obligation;
 mod term;
 mod terms;
 
 pub use clause::{Clause, Lit};
 pub use laws::{denotations_by_parts, open_partitions};
+pub use lits::Lits;
 pub use obligation::Obligation;
 pub use term::Term;
 pub use terms::Terms;

@@ -4,10 +4,9 @@ use Rattle.std.proofs.lemmas.Bool.{and_parts, eqb-true}
 use Rattle.std.specs.List.{AllZip, list_all}
 use Rattle.std.specs.Prelude.{IfOk, slice_get}
 use Rattle.rh_list.specs.Each.{Each}
+use Rattle.rh_list.proofs.AtPlace.{passes_at}
 use Rattle.rh_admit.specs.Rules.{IsTold}
 use Rattle.rh_il.specs.declared.program.Proc.{Proc}
-use Rattle.rh_il.specs.declared.program.Stmt.{Stmt}
-use Rattle.rh_il.specs.declared.program.Stmt.TheVariants.{Skip, Copy, Address, Load, Compute, Write, New, Call, Goto, If, Return}
 use Rattle.rh_il.specs.Checks.{IsProgram}
 use Rattle.rh_il.specs.Numbers.{HasNumbers}
 use Rattle.rh_log.specs.declared.log.Admission.{Admission}
@@ -38,10 +37,11 @@ use Rattle.rh_rule.proofs.Passed.{rule_of}
 use Rattle.rh_ground.specs.Search.{AreVars}
 use Rattle.rh_transform.specs.Bare.{IsBare}
 use Rattle.rh_transform.proofs.FromFiles.{bare_rules}
-use Rattle.rh_lift.specs.Runs.{AreSound, AreStraight, is_call}
-use Rattle.rh_lift.proofs.Returned.{returns_kept}
+use Rattle.rh_ground.proofs.Greatest.{greatest_is_supported}
+use Rattle.rh_lift.specs.Standing.{AreSound, IsProvedSet}
+use Rattle.rh_lift.proofs.WholeRuns.{facts_hold_in_runs, returns_kept}
 use Rattle.rh_top.specs.Steps.{HaveFewTerms}
-use Rattle.rh_top.specs.Stage.{is_built_conclusion, is_built_file, is_built_form, is_built_program, is_built_rule, is_built_stmt, is_empty}
+use Rattle.rh_top.specs.Stage.{is_built_conclusion, is_built_file, is_built_form, is_built_rule, is_empty}
 
 -- ---- rulings
 
@@ -88,11 +88,6 @@ empty_is : {X : Type 0} (xs : List X) → is_empty xs ≡ true → xs ≡ []
 empty_is [] empty = refl
 empty_is (x ∷ xs) empty = let size = eqb-true (suc (length xs)) 0 empty in absurd (omega (arith, size))
 
-passes_at : {X : Type 0} (test : X → Bool) (xs : List X) (i : ℕ) (x : X) → list_all test xs ≡ true → slice_get xs i ≡ Some x → test x ≡ true
-passes_at test [] i x all read = cc
-passes_at test (y ∷ ys) zero x all read = let same : y ≡ x = cc in subst (λ z. test z ≡ true) same (and_parts (test y) (list_all test ys) all).0
-passes_at test (y ∷ ys) (suc i) x all read = passes_at test ys i x (and_parts (test y) (list_all test ys) all).1 read
-
 var_is : (kind : Kind) → is_var_kind kind ≡ true → kind ≡ Var
 var_is Var is = refl
 var_is Const is = cc
@@ -133,54 +128,33 @@ module _ (file : Rules) (is_file : IsRuleFile file) (built : is_built_file file 
   pub bare : Each IsBare file.rules
   bare = bare_rules file is_file (λ number rule read. (each_built number rule read).vars) (λ number rule read. (each_built number rule read).premises) (λ number rule read. (each_built number rule read).sides)
 
--- ---- the program
-
-built_no_call : (stmt : Stmt) → is_built_stmt stmt ≡ true → is_call stmt ≡ false
-built_no_call Skip built = refl
-built_no_call (Copy to from) built = refl
-built_no_call (Address to of) built = refl
-built_no_call (Load to from) built = refl
-built_no_call (Compute to op left right) built = refl
-built_no_call (Write to from) built = refl
-built_no_call (New to) built = refl
-built_no_call (Call to callee arg) built = cc
-built_no_call (Goto to) built = refl
-built_no_call (If condition taken other) built = refl
-built_no_call (Return value) built = refl
-
-bodies_built : (procs : List Proc) → is_built_program procs ≡ true → (place : ℕ) (proc : Proc) → slice_get procs place ≡ Some proc → list_all is_built_stmt proc.body ≡ true
-bodies_built [] built place proc read = cc
-bodies_built (p ∷ others) built zero proc read =
-    let same : p ≡ proc = cc in subst (λ q. list_all is_built_stmt q.body ≡ true) same (and_parts (is_empty others) (list_all is_built_stmt p.body) built).1
-bodies_built (p ∷ others) built (suc place) proc read =
-    let none : others ≡ [] = empty_is others (and_parts (is_empty others) (list_all is_built_stmt p.body) built).0 in
-    let absurdity : slice_get [] place ≡ Some proc = subst (λ ps. slice_get ps place ≡ Some proc) none read in
-    absurd cc
-
-pub straight : (procs : List Proc) → is_built_program procs ≡ true → Each HasNumbers procs → AreStraight procs
-straight procs built numbers place proc read number stmt here = record {
-  numbers = numbers place proc read number stmt here;
-  no_call = built_no_call stmt (passes_at is_built_stmt proc.body number stmt (bodies_built procs built place proc read) here);
-}
-
 -- the report is the result
-pub made_result : (file : Rules) (procs : List Proc) (admissions : List Admission) (text : List ℕ) → IsRuleFile file → is_built_file file ≡ true → IsProgram procs → is_built_program procs ≡ true → Each HasNumbers procs
+pub made_result : (file : Rules) (procs : List Proc) (admissions : List Admission) (text : List ℕ) → IsRuleFile file → is_built_file file ≡ true → IsProgram procs → Each HasNumbers procs
     → AllZip (IsTold file.schemas) file.rules admissions
     → text ≡ rule_lines file.rules (map ruling_of admissions) ++ program_text (rewritten (λ fact. false) file.rules (map ruling_of admissions) procs)
     → IsText text (rewritten (λ fact. false) file.rules (map ruling_of admissions) procs)
     → IsResult file procs text
-made_result file procs admissions text is_file built program built_program numbers told is printed =
+made_result file procs admissions text is_file built program numbers told is printed =
+    let rulings : List Ruling = map ruling_of admissions in
+    let greatest = nothing_is_greatest file.rules rulings procs (all_transform file is_file built) in
+    let proved : IsProvedSet file rulings procs (λ fact. false) = record {
+      rules = is_file;
+      sound = sound_by file.schemas file.rules admissions (λ number rule read. rule_of file number file.schemas rule is_file refl read) told;
+      program = program;
+      numbers = numbers;
+      supported = greatest_is_supported file.rules rulings procs (λ fact. false) greatest;
+    } in
     record {
       output = record {
-        rulings = map ruling_of admissions;
+        rulings = rulings;
         ruled = ruled_by file.schemas file.rules admissions told;
         known = λ fact. false;
-        greatest = nothing_is_greatest file.rules (map ruling_of admissions) procs (all_transform file is_file built);
-        text_is = is ∙ sym (opt_without_facts file (map ruling_of admissions) (λ fact. false) procs (no_schemas file is_file built));
+        greatest = greatest;
+        text_is = is ∙ sym (opt_without_facts file rulings (λ fact. false) procs (no_schemas file is_file built));
       };
       printed = printed;
-      returns = λ arg value bound fits returns. returns_kept file.schemas file.rules (map ruling_of admissions) (λ fact. false) procs (sound_by file.schemas file.rules admissions (λ number rule read. rule_of file number file.schemas rule is_file refl read) told) (bare file is_file built) program
-          (straight procs built_program numbers) arg value bound fits returns;
+      facts = λ state fact. facts_hold_in_runs file rulings procs (λ fact. false) state fact proved;
+      returns = λ arg value bound. returns_kept file rulings procs (λ fact. false) arg value bound proved;
     }
 
 -- the rewritten program, of which the parts are told by other names

@@ -1,9 +1,9 @@
 use Rattle.std.proofs.Common.{◌≡◌, ◌++◌, take}
 use Rattle.std.specs.List.{flat_map}
+use Rattle.rh_meaning.specs.Meaning.{fact_literals}
+use Rattle.rh_meaning.specs.View.{clauses_of}
 use Rattle.rh_oblig.specs.Hypotheses.{units}
-use Rattle.rh_oblig.specs.Meaning.{fact_literals}
 use Rattle.rh_oblig.specs.Statement.{before}
-use Rattle.rh_oblig.specs.View.{clauses_of}
 use Rattle.rh_oblig.proofs.hypotheses.push_premises.Given as goal
 
 abbrev pub invariant-loop-premise : goal.invariant-loop-premise

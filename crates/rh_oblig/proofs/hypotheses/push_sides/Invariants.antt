@@ -1,6 +1,6 @@
 use Rattle.std.proofs.Common.{◌≡◌, ◌++◌, map, take}
+use Rattle.rh_meaning.specs.View.{clauses_of}
 use Rattle.rh_oblig.specs.Hypotheses.{side_literal, units}
-use Rattle.rh_oblig.specs.View.{clauses_of}
 use Rattle.rh_oblig.proofs.hypotheses.push_sides.Given as goal
 
 abbrev pub invariant-loop-side : goal.invariant-loop-side

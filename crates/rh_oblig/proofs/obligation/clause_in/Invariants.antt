@@ -1,9 +1,9 @@
 use Rattle.std.proofs.Common.{◌≡◌, drop, map, take}
 use Rattle.std.specs.List.{AllByRecursion, flat_map}
-use Rattle.rh_oblig.specs.Obligation.{lit_in}
-use Rattle.rh_oblig.specs.Sorts.{IsIn}
-use Rattle.rh_oblig.specs.TermList.{literal_trees}
-use Rattle.rh_oblig.specs.View.{lits_of}
+use Rattle.rh_meaning.specs.Placed.{lit_in}
+use Rattle.rh_meaning.specs.Sorts.{IsIn}
+use Rattle.rh_meaning.specs.Literal.{literal_trees}
+use Rattle.rh_meaning.specs.View.{lits_of}
 use Rattle.rh_oblig.proofs.obligation.clause_in.Given as goal
 
 abbrev pub invariant-loop-lit : goal.invariant-loop-lit

@@ -1,6 +1,6 @@
 use Rattle.std.proofs.Common.{◌≡◌, ◌++◌}
-use Rattle.rh_oblig.specs.Obligation.{clauses_in}
-use Rattle.rh_oblig.specs.View.{clauses_of}
+use Rattle.rh_meaning.specs.Placed.{clauses_in}
+use Rattle.rh_meaning.specs.View.{clauses_of}
 use Rattle.rh_oblig.proofs.obligation.clauses.Given as goal
 
 abbrev pub invariant-loop-clause : goal.invariant-loop-clause

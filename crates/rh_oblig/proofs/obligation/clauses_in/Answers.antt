@@ -1,13 +1,13 @@
 use Rattle.std.proofs.Common.{◌≡◌, ◌+◌, ◌++◌, [], ◌∷◌, List, drop, take, get_or, sym, subst, ◌∙◌, ap}
 use Rattle.std.specs.List.{AllByRecursion, flat_map}
 use Rattle.rh_list.proofs.Appended.{apart}
-use Rattle.rh_oblig.specs.declared.literal.TreeLit.{TreeLit as BuiltLit}
-use Rattle.rh_oblig.specs.declared.hypotheses.TreeClause.{TreeClause as BuiltClause}
+use Rattle.rh_meaning.specs.declared.literal.TreeLit.{TreeLit as BuiltLit}
+use Rattle.rh_meaning.specs.declared.literal.TreeClause.{TreeClause as BuiltClause}
 use Rattle.rh_term.specs.declared.clause.Clause.{Clause}
-use Rattle.rh_oblig.specs.Obligation.{clause_in, clauses_in}
-use Rattle.rh_oblig.specs.Sorts.{IsIn}
-use Rattle.rh_oblig.specs.TermList.{clause_trees, literal_trees}
-use Rattle.rh_oblig.specs.View.{clauses_of, lits_of}
+use Rattle.rh_meaning.specs.Placed.{clause_in, clauses_in}
+use Rattle.rh_meaning.specs.Sorts.{IsIn}
+use Rattle.rh_meaning.specs.Literal.{clause_trees, literal_trees}
+use Rattle.rh_meaning.specs.View.{clauses_of, lits_of}
 use Rattle.rh_oblig.proofs.Build.{clauses_cut, clauses_more}
 use Rattle.rh_oblig.proofs.obligation.clauses_in.Goals as goal
 

@@ -1,9 +1,9 @@
 use Rattle.std.proofs.Common.{◌≡◌, drop, take}
 use Rattle.std.specs.List.{AllByRecursion, flat_map}
-use Rattle.rh_oblig.specs.Obligation.{clauses_in}
-use Rattle.rh_oblig.specs.Sorts.{IsIn}
-use Rattle.rh_oblig.specs.TermList.{clause_trees}
-use Rattle.rh_oblig.specs.View.{clauses_of}
+use Rattle.rh_meaning.specs.Placed.{clauses_in}
+use Rattle.rh_meaning.specs.Sorts.{IsIn}
+use Rattle.rh_meaning.specs.Literal.{clause_trees}
+use Rattle.rh_meaning.specs.View.{clauses_of}
 use Rattle.rh_oblig.proofs.obligation.clauses_in.Given as goal
 
 abbrev pub invariant-loop-clause : goal.invariant-loop-clause

@@ -1,9 +1,9 @@
 use Rattle.std.proofs.Common.{◌≡◌, ◌≤◌, ◌∙◌, ap, arith, false, true, length, sym, subst}
 use Rattle.std.specs.List.{AllByRecursion, flat_map}
 use Rattle.rh_term.specs.Clause.{are_within}
-use Rattle.rh_oblig.specs.Sorts.{IsIn}
-use Rattle.rh_oblig.specs.TermList.{clause_trees, literal_trees}
-use Rattle.rh_oblig.specs.View.{clauses_of, lit_of}
+use Rattle.rh_meaning.specs.Sorts.{IsIn}
+use Rattle.rh_meaning.specs.Literal.{clause_trees, literal_trees}
+use Rattle.rh_meaning.specs.View.{clauses_of, lit_of}
 use Rattle.rh_oblig.proofs.Bridge.{trees_in}
 use Rattle.rh_oblig.specs.Obligation.{AreSmallClauses, obligation_clauses}
 use Rattle.rh_oblig.proofs.Fits.{clauses_fit}

@@ -1,10 +1,7 @@
-use Rattle.std.proofs.Common.{◌≡◌, ◌<◌, ◌^◌, ℕ, List, Err, Some, None, length, get_or, sym, ◌∙◌, ap}
+use Rattle.std.proofs.Common.{◌≡◌, ◌<◌, ◌^◌, Some, None, length}
 use Rattle.std.specs.Prelude.{slice_get}
-use Rattle.std.proofs.lemmas.Option.{slice_get-get_or}
-use Rattle.rh_rule.specs.declared.rule.Rule.{Rule}
 use Rattle.rh_rule.specs.RuleFiles.{IsRuleOf, OfRule}
 use Rattle.rh_rule.proofs.Passed.{of_rule, rule_of}
-use Rattle.rh_term.specs.declared.obligation.Obligation.{Obligation}
 use Rattle.rh_oblig.specs.Obligation.{excess, obligations_of, parts_of}
 use Rattle.rh_oblig.proofs.Sizes.{made_few, ok_leads, on_ok_leads, read_at}
 use Rattle.rh_oblig.proofs.obligation.obligations.Goals as goal

@@ -1,24 +1,26 @@
-use Rattle.std.proofs.Common.{◌≡◌, ◌≤◌, ◌++◌, [], ◌∷◌, List, Err, map, length, take, get_or, sym, subst, ap, arith, ◌∙◌}
+use Rattle.std.proofs.Common.{◌≡◌, ◌<◌, ◌≤◌, ◌^◌, ◌++◌, [], ◌∷◌, List, Err, map, length, take, get_or, sym, subst, ap, arith, ◌∙◌}
 use Rattle.std.specs.List.{All, AllByRecursion, flat_map}
 use Rattle.std.proofs.lemmas.List.Elements.{All-push}
 use Rattle.std.proofs.lemmas.List.{map-append}
 use Rattle.rh_term.specs.declared.obligation.Obligation.{Obligation}
 use Rattle.rh_term.specs.declared.term.Term.{Term}
 use Rattle.rh_term.specs.declared.clause.Clause.{Clause}
-use Rattle.rh_oblig.specs.declared.literal.TreeLit.{TreeLit as BuiltLit}
-use Rattle.rh_oblig.specs.declared.hypotheses.TreeClause.{TreeClause as BuiltClause}
+use Rattle.rh_meaning.specs.declared.literal.TreeLit.{TreeLit as BuiltLit}
+use Rattle.rh_meaning.specs.declared.literal.TreeClause.{TreeClause as BuiltClause}
+use Rattle.rh_meaning.specs.Literal.{TreeLit, TreeClause, clause_trees, literal_trees}
+use Rattle.rh_meaning.specs.Sorts.{IsSorted}
+use Rattle.rh_meaning.specs.View.{clauses_of, lit_of, lits_of}
 use Rattle.rh_oblig.specs.declared.obligation.ObligFault.TheVariants.{TooManyTerms}
 use Rattle.rh_oblig.specs.Goals.{goals as goals_of}
 use Rattle.rh_oblig.specs.Hypotheses.{hypotheses}
-use Rattle.rh_oblig.specs.Literal.{TreeLit, TreeClause}
 use Rattle.rh_oblig.specs.Obligation.{IsSmall, first_excess, parts_of, terms_of}
-use Rattle.rh_oblig.specs.Sorts.{AreFewClauses, IsSorted}
-use Rattle.rh_oblig.specs.TermList.{clause_trees, literal_trees, term_list}
-use Rattle.rh_oblig.specs.View.{clauses_of, lit_of, lits_of}
-use Rattle.rh_oblig.proofs.Each.{err_is, excess_more, part_for, part_is, parts_more, sorted_at, too_many_at}
+use Rattle.rh_oblig.specs.Few.{AreFewClauses, trees_size}
+use Rattle.rh_oblig.specs.TermList.{first_trees, term_list}
+use Rattle.rh_oblig.proofs.Each.{at_goal, err_is, excess_more, part_for, part_is, parts_more, too_many_at}
 use Rattle.rh_oblig.proofs.RuleTrees.{goals_sorted, hypotheses_sorted}
 use Rattle.rh_oblig.proofs.Sizes.{hypotheses_fit, passed}
 use Rattle.rh_oblig.proofs.Sound.{rule_numbers}
+use Rattle.rh_oblig.proofs.TreeSizes.{HasFewTerms, goals_have_few}
 use Rattle.rh_oblig.proofs.obligation.obligations_over.Goals as goal
 
 abbrev Part : Type 0
@@ -52,8 +54,21 @@ obligation-requires-clause-goal c =
     let all : lits_of goals ≡ goals_of c.args.schemas.now c.args.rule.now =
     ap (λ (lits : List BuiltLit). lits_of lits) c.as_slice-goal-items.ensures.value ∙ c.in_ok-goals.ensures in
     subst (λ (goal : BuiltLit). AllByRecursion IsSorted (literal_trees (lit_of goal))) (sym c.goal-item.is)
-    (sorted_at goals c.loop-goal.goal-index item c.loop-goal-test.true
+    (at_goal (λ goal. AllByRecursion IsSorted (literal_trees goal)) goals c.loop-goal.goal-index item c.loop-goal-test.true
     (subst (λ (lits : List TreeLit). AllByRecursion (λ lit. AllByRecursion IsSorted (literal_trees lit)) lits) (sym all) (goals_sorted c.args.schemas.now c.args.rule.now c.requires.file.numbers.schemas (rule_numbers c.args.schemas.now c.args.rule.now c.requires))))
+
+pub obligation-requires-clause-room : goal.obligation-requires-clause-room
+obligation-requires-clause-room c =
+    let schemas = c.args.schemas.now in
+    let rule = c.args.rule.now in
+    let goals : List BuiltLit = c.as_slice-goal-items.result.now in
+    let item : BuiltLit = c.goal-item.result in
+    let known : clauses_of c.as_slice.result.now ≡ hypotheses schemas rule = ap (λ (clauses : List BuiltClause). clauses_of clauses) c.as_slice.ensures.value ∙ c.in_ok-taken.ensures in
+    let all : lits_of goals ≡ goals_of schemas rule = ap (λ (lits : List BuiltLit). lits_of lits) c.as_slice-goal-items.ensures.value ∙ c.in_ok-goals.ensures in
+    subst (λ (clauses : List TreeClause). trees_size (first_trees rule.params rule.pattern clauses (lit_of item)) < 2 ^ 29) (sym known)
+    (subst (λ (goal : BuiltLit). HasFewTerms schemas rule (lit_of goal)) (sym c.goal-item.is)
+    (at_goal (HasFewTerms schemas rule) goals c.loop-goal.goal-index item c.loop-goal-test.true
+    (subst (AllByRecursion (HasFewTerms schemas rule)) (sym all) (goals_have_few schemas rule c.requires))))
 
 pub returns-in_err-obligation-clause-too_many : goal.returns-in_err-obligation-clause-too_many
 returns-in_err-obligation-clause-too_many c =

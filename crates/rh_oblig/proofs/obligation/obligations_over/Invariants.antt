@@ -1,7 +1,7 @@
 use Rattle.std.proofs.Common.{◌≡◌, None, map, take}
 use Rattle.std.specs.List.{All}
+use Rattle.rh_meaning.specs.View.{lits_of}
 use Rattle.rh_oblig.specs.Obligation.{IsSmall, first_excess, parts_of}
-use Rattle.rh_oblig.specs.View.{lits_of}
 use Rattle.rh_oblig.proofs.Each.{part_for}
 use Rattle.rh_oblig.proofs.obligation.obligations_over.Given as goal
 

@@ -1,7 +1,7 @@
 use Rattle.std.proofs.Common.{◌≡◌, ◌++◌, take}
 use Rattle.std.specs.List.{flat_map}
+use Rattle.rh_meaning.specs.View.{clauses_of}
 use Rattle.rh_oblig.specs.Hypotheses.{call_clauses_of}
-use Rattle.rh_oblig.specs.View.{clauses_of}
 use Rattle.rh_oblig.proofs.own.push_call_clauses.Given as goal
 
 abbrev pub invariant-loop-meta : goal.invariant-loop-meta

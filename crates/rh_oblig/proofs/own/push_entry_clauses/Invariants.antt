@@ -1,8 +1,8 @@
 use Rattle.std.proofs.Common.{◌≡◌, ◌++◌, [], ◌∷◌, map, take}
-use Rattle.rh_oblig.specs.Literal.{unheld_tree}
+use Rattle.rh_meaning.specs.Literal.{unheld_tree}
+use Rattle.rh_meaning.specs.Tree.{Leaf}
+use Rattle.rh_meaning.specs.View.{clauses_of}
 use Rattle.rh_oblig.specs.Statement.{address}
-use Rattle.rh_oblig.specs.Tree.{Leaf}
-use Rattle.rh_oblig.specs.View.{clauses_of}
 use Rattle.rh_term.specs.declared.term.Term.TheVariants.{Start}
 use Rattle.rh_oblig.proofs.own.push_entry_clauses.Given as goal
 

@@ -1,6 +1,6 @@
 use Rattle.std.proofs.Common.{◌≡◌, ◌++◌, ◌==◌, map, take, not, filter}
+use Rattle.rh_meaning.specs.View.{clauses_of}
 use Rattle.rh_oblig.specs.Hypotheses.{local_clause}
-use Rattle.rh_oblig.specs.View.{clauses_of}
 use Rattle.rh_oblig.proofs.own.push_locals.Given as goal
 
 abbrev pub invariant-loop-meta : goal.invariant-loop-meta

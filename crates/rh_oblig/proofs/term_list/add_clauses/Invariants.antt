@@ -1,7 +1,7 @@
 use Rattle.std.proofs.Common.{drop}
 use Rattle.std.specs.List.{flat_map}
-use Rattle.rh_oblig.specs.TermList.{clause_trees}
-use Rattle.rh_oblig.specs.View.{clauses_of}
+use Rattle.rh_meaning.specs.Literal.{clause_trees}
+use Rattle.rh_meaning.specs.View.{clauses_of}
 use Rattle.rh_oblig.proofs.Build.{Adds}
 use Rattle.rh_oblig.proofs.term_list.add_clauses.Given as goal
 

@@ -1,7 +1,7 @@
 use Rattle.std.proofs.Common.{drop}
 use Rattle.std.specs.List.{flat_map}
-use Rattle.rh_oblig.specs.TermList.{literal_trees}
-use Rattle.rh_oblig.specs.View.{lits_of}
+use Rattle.rh_meaning.specs.Literal.{literal_trees}
+use Rattle.rh_meaning.specs.View.{lits_of}
 use Rattle.rh_oblig.proofs.Build.{Adds}
 use Rattle.rh_oblig.proofs.term_list.add_lits.Given as goal
 

@@ -37,7 +37,7 @@ returns c =
     of_ok (λ (text : Vec ℕ Global). text.items ≡ rule_lines c.rules-rules.result.now c.as_slice-2.result.now ++ program_text c.in_ok-rewritten.rewritten)
     (λ (text : Vec ℕ Global). IsText text.items c.in_ok-rewritten.rewritten)
     (λ (text : Vec ℕ Global). IsResult file procs text.items) c.report.result
-    (λ text is printed. made_result file procs c.args.admissions.now text.items c.rules-rules.ensures.file c.requires.built_file c.passes_checks.ensures c.requires.built_program c.numbers_fit.ensures c.requires.told
+    (λ text is printed. made_result file procs c.args.admissions.now text.items c.rules-rules.ensures.file c.requires.built_file c.passes_checks.ensures c.numbers_fit.ensures c.requires.told
     (report_is c.rules-rules.result.now file.rules c.as_slice-2.result.now rulings c.in_ok-rewritten.rewritten (rewritten (λ fact. false) file.rules rulings procs) text.items c.rules-rules.ensures.value second after is)
     (subst (IsText text.items) after printed))
     c.report.ensures.text c.report.ensures.program
