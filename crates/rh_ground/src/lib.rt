@@ -1,7 +1,6 @@
 //! Ground instances of rules at the statements of a program.
 #![tactic(auto)]
 
-mod binding;
 mod matching;
 mod search;
 

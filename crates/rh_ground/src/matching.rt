@@ -2,7 +2,7 @@
 ghost use Rattle.std.specs.Prelude.{◌≡◌};
 ghost use Rattle.rh_ground.specs.Match.{assigns, callee_of, is_operand, is_variable, matches, other_of, taken_of, template_under};
 
-use crate::binding::{base_under, bound, variable_under};
+use rh_domain::{base_under, bound, variable_under};
 use rh_il::{Base, Stmt};
 use rh_rule::{Arg, Form, RuleBase};
 
