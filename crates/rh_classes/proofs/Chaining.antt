@@ -1,5 +1,5 @@
 -- Chains of the places whose terms may be congruent.
-use Rattle.std.proofs.Common.{◌≡◌, ℕ, true, ◌<◌, ◌≤◌, ◌+◌, ◌%◌, List, Option, Some, None, length, slice_get, slice_index, arith, refl, ap, sym, subst, ◌∙◌, inl, inr, get_or, get_or-set_same, get_or-set_other}
+use Rattle.std.proofs.Common.{◌≡◌, ℕ, true, ◌<◌, ◌+◌, ◌%◌, List, Some, None, length, slice_get, slice_index, arith, refl, ap, sym, subst, ◌∙◌, inl, inr, get_or, get_or-set_same, get_or-set_other}
 use Rattle.std.specs.Prelude.{slice_set}
 use Rattle.std.specs.Option.{option_map, option_and_then}
 use Rattle.std.proofs.lemmas.Bool.{cases_order, cases_eq}
@@ -8,9 +8,9 @@ use Rattle.rh_term.specs.declared.term.Term.{Term}
 use Rattle.rh_term.specs.Partition.{Congruent, joined, alone, sel, upd, op, kind, una}
 use Rattle.rh_term.specs.Term.{IsTermList}
 use Rattle.rh_classes.specs.declared.chains.TheConstants.{BUCKETS}
-use Rattle.rh_classes.specs.Chain.{AreChained, AreLinked, IsAlike, IsNew, IsReached, Leads, bucket_at, bucket_of, key_of, mixed, operator_number}
+use Rattle.rh_classes.specs.Chain.{AreChained, AreLinked, IsAlike, IsNew, IsReached, Leads, bucket_at, bucket_of, key_of}
 use Rattle.rh_classes.specs.Merge.{AgreesBefore}
-use Rattle.rh_classes.proofs.Joining.{joined-equal, equal-joined}
+use Rattle.rh_classes.proofs.Joining.{joined-equal}
 use Rattle.rh_classes.proofs.Symmetry.{Congruent-sym, Congruent-trans, joined-sym, joined-trans}
 
 module _ (labels : List ℕ) where
@@ -106,35 +106,35 @@ module _ (terms : List Term) (labels : List ℕ) where
     head_leads : (b : ℕ) → b < BUCKETS → Leads terms labels b (place + 1) (slice_index headed b)
     head_leads b small = elim (cases_eq b bucket) [
       | inl e ↦
-        let now : slice_index headed b ≡ place + 1 = ap (slice_index headed) e ∙ get_or-set_same heads bucket (place + 1) 0 (omega arith) in
-        record {
-          within = omega (arith, now);
-          own = λ p f. let same : p ≡ place = omega (arith, now) in ap (bucket_at terms labels) same ∙ here ∙ ap Some (sym e);
-          last = λ p from before _. absurd (omega (arith, now));
-        }
+          let now : slice_index headed b ≡ place + 1 = ap (slice_index headed) e ∙ get_or-set_same heads bucket (place + 1) 0 (omega arith) in
+          record {
+            within = omega (arith, now);
+            own = λ p f. let same : p ≡ place = omega (arith, now) in ap (bucket_at terms labels) same ∙ here ∙ ap Some (sym e);
+            last = λ p from before _. absurd (omega (arith, now));
+          }
       | inr ne ↦
-        let now : slice_index headed b ≡ slice_index heads b = get_or-set_other heads bucket b (place + 1) 0 ne in
-        let old = chained.from_head b small in
-        record {
-          within = omega (arith, now, old.within);
-          own = λ p f. old.own p (f ∙ now);
-          last = λ p from before is. elim (cases_eq p place) [
-            | inl same ↦ ne (same_Some b bucket (sym is ∙ ap (bucket_at terms labels) same ∙ here))
-            | inr other ↦ old.last p (omega (arith, now)) (omega arith) is
-          ];
-        }
+          let now : slice_index headed b ≡ slice_index heads b = get_or-set_other heads bucket b (place + 1) 0 ne in
+          let old = chained.from_head b small in
+          record {
+            within = omega (arith, now, old.within);
+            own = λ p f. old.own p (f ∙ now);
+            last = λ p from before is. elim (cases_eq p place) [
+              | inl same ↦ ne (same_Some b bucket (sym is ∙ ap (bucket_at terms labels) same ∙ here))
+              | inr other ↦ old.last p (omega (arith, now)) (omega arith) is
+            ];
+          }
     ]
 
     link_leads : AreLinked terms labels linked (place + 1)
     link_leads p b before is = elim (cases_eq p place) [
       | inl same ↦
-        let now : slice_index linked p ≡ rest = ap (slice_index linked) same ∙ get_or-set_same links place rest 0 within in
-        let which : bucket ≡ b = same_Some bucket b (sym here ∙ ap (bucket_at terms labels) (sym same) ∙ is) in
-        let old : Leads terms labels b place rest = subst (λ c. Leads terms labels c place rest) which (chained.from_head bucket below) in
-        subst (λ l. Leads terms labels b p l) (sym now) (subst (λ q. Leads terms labels b q rest) (sym same) old)
+          let now : slice_index linked p ≡ rest = ap (slice_index linked) same ∙ get_or-set_same links place rest 0 within in
+          let which : bucket ≡ b = same_Some bucket b (sym here ∙ ap (bucket_at terms labels) (sym same) ∙ is) in
+          let old : Leads terms labels b place rest = subst (λ c. Leads terms labels c place rest) which (chained.from_head bucket below) in
+          subst (λ l. Leads terms labels b p l) (sym now) (subst (λ q. Leads terms labels b q rest) (sym same) old)
       | inr other ↦
-        let now : slice_index linked p ≡ slice_index links p = get_or-set_other links place p rest 0 other in
-        subst (λ l. Leads terms labels b p l) (sym now) (chained.from_link p b (omega arith) is)
+          let now : slice_index linked p ≡ slice_index links p = get_or-set_other links place p rest 0 other in
+          subst (λ l. Leads terms labels b p l) (sym now) (chained.from_link p b (omega arith) is)
     ]
 
     -- a place is put at the head of its chain

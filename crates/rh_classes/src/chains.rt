@@ -72,13 +72,7 @@ fn bucket(labels: &[u32], term: Term) -> Option<usize>
 }
 
 /// Puts a place at the head of its chain, and gives the link to the rest of the chain.
-fn enter(
-    terms: &[Term],
-    labels: &[u32],
-    heads: &mut [u32],
-    links: &mut [u32],
-    place: usize,
-) -> u32
+fn enter(terms: &[Term], labels: &[u32], heads: &mut [u32], links: &mut [u32], place: usize) -> u32
     requires list { IsTermList terms.now }
     requires few { length terms.now < 2 ^ 32 }
     requires place { place < length terms.now }
@@ -98,13 +92,7 @@ fn enter(
 }
 
 /// The last place along a chain whose term is congruent to the one at a place.
-fn alike(
-    terms: &[Term],
-    labels: &[u32],
-    links: &[u32],
-    place: usize,
-    from: u32,
-) -> Option<u32>
+fn alike(terms: &[Term], labels: &[u32], links: &[u32], place: usize, from: u32) -> Option<u32>
     requires few { length terms.now < 2 ^ 32 }
     requires place { place < length terms.now }
     requires links { length links.now ≡ length terms.now }
@@ -127,13 +115,7 @@ fn alike(
 
 /// An earlier place in another class whose term is congruent to the one at a place, where the places
 /// before agree among themselves.
-fn apart_from(
-    terms: &[Term],
-    labels: &[u32],
-    links: &[u32],
-    place: usize,
-    from: u32,
-) -> Option<u32>
+fn apart_from(terms: &[Term], labels: &[u32], links: &[u32], place: usize, from: u32) -> Option<u32>
     requires few { length terms.now < 2 ^ 32 }
     requires place { place < length terms.now }
     requires links { length links.now ≡ length terms.now }

@@ -1,5 +1,5 @@
 -- The clauses without an equation.
-use Rattle.std.proofs.Common.{◌≡◌, ℕ, suc, Bool, true, false, ◌<◌, ◌≤◌, ◌+◌, ◌==◌, ◌&&◌, List, [], ◌∷◌, ◌++◌, length, get_or, slice_index, arith, refl, sym, ap, subst, ◌∙◌, inl, inr}
+use Rattle.std.proofs.Common.{◌≡◌, ℕ, suc, Bool, true, false, ◌<◌, ◌+◌, ◌==◌, ◌&&◌, List, [], ◌∷◌, ◌++◌, length, get_or, slice_index, arith, refl, sym, ap, subst, ◌∙◌, inl, inr}
 use Rattle.std.proofs.Math.ListN.{get_or-append}
 use Rattle.std.proofs.Math.Seq.{get_or-append_seam}
 use Rattle.std.proofs.lemmas.List.{length-append}
@@ -9,7 +9,7 @@ use Rattle.std.proofs.lemmas.Bool.{cases_eq, cases_order, eqb-false, eqb-true, n
 use Rattle.rh_term.specs.declared.clause.Lit.{Lit}
 use Rattle.rh_log.specs.Tree.{IsFalseAt, width}
 use Rattle.rh_term.specs.declared.clause.Clause.{Clause}
-use Rattle.rh_refuter.specs.Choice.{AreDenials, HasNoFalse, HasNoFalseDenial, IsChosen, width_at}
+use Rattle.rh_refuter.specs.Choice.{AreDenials, HasNoFalseDenial, IsChosen, width_at}
 use Rattle.rh_refuter.proofs.Choosing.{IsBest, false_within, width_here}
 
 -- a literal more, in front

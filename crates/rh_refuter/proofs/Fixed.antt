@@ -1,5 +1,5 @@
 -- What the search finds is fixed: at each branch one clause is chosen, and a merge has one outcome.
-use Rattle.std.proofs.Common.{◌≡◌, ℕ, ◌<◌, List, [], ◌∷◌, ◌++◌, Some, arith, refl, ap, sym, subst, ◌∙◌, inl, inr}
+use Rattle.std.proofs.Common.{◌≡◌, ℕ, List, [], ◌∷◌, ◌++◌, Some, arith, refl, ap, sym, subst, ◌∙◌, inl, inr}
 use Rattle.std.specs.Prelude.{slice_get}
 use Rattle.std.proofs.lemmas.Bool.{cases_order}
 use Rattle.rh_log.specs.declared.log.LogNode.{LogNode}
@@ -7,7 +7,6 @@ use Rattle.rh_log.specs.Tree.{LeadsTo, Expands, root, width}
 use Rattle.rh_log.proofs.Trees.{leads_unique}
 use Rattle.rh_term.specs.declared.clause.Clause.{Clause}
 use Rattle.rh_term.specs.declared.term.Term.{Term}
-use Rattle.rh_refuter.specs.declared.search.Verdict.{Verdict}
 use Rattle.rh_refuter.specs.declared.search.Verdict.TheVariants.{Closed, Open}
 use Rattle.rh_refuter.specs.Choice.{HasNoFalse, IsChosen}
 use Rattle.rh_refuter.specs.Laws.{OneVerdict}

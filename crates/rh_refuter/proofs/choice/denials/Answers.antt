@@ -1,4 +1,4 @@
-use Rattle.std.proofs.Common.{Vec, Global, ℕ, ◌+◌, List, ap, sym, subst, ◌∙◌}
+use Rattle.std.proofs.Common.{Vec, Global, ℕ, ◌+◌, ap, sym, subst, ◌∙◌}
 use Rattle.rh_refuter.specs.Choice.{AreDenials}
 use Rattle.rh_refuter.proofs.Denying.{with_equation, without_equation}
 use Rattle.rh_refuter.proofs.choice.denials.Goals as goal

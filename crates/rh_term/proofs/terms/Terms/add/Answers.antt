@@ -1,4 +1,4 @@
-use Rattle.std.proofs.Common.{◌≡◌, ◌++◌, ◌∷◌, [], ap, length, ◌∙◌}
+use Rattle.std.proofs.Common.{◌++◌, ◌∷◌, [], ap, length, ◌∙◌}
 use Rattle.rh_term.proofs.Found.{put_last}
 use Rattle.rh_term.proofs.Listed.{kept, added}
 use Rattle.rh_term.proofs.terms.Terms.add.Goals as goal
