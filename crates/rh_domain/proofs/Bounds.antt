@@ -1,7 +1,6 @@
 -- There are not too many facts to be counted in 128 bits.
-use Rattle.std.proofs.Common.{ℕ, zero, suc, ◌≡◌, ◌+◌, ◌*◌, ◌^◌, ◌<◌, ◌≤◌, List, [], ◌∷◌, length, map, refl, sym, subst, arith}
+use Rattle.std.proofs.Common.{ℕ, suc, ◌≡◌, ◌+◌, ◌*◌, ◌^◌, ◌≤◌, List, [], ◌∷◌, length, refl, arith}
 use Rattle.std.specs.List.{AllByRecursion}
-use Rattle.std.specs.Prelude.{sum}
 use Rattle.std.proofs.Math.Nat.{mul-le-mul, pow-le-pow_right, pow-succ'}
 use Rattle.std.proofs.lemmas.List.{length-map}
 use Rattle.rh_rule.specs.declared.rule.Arg.TheVariants.{Const as ANumber}
@@ -11,7 +10,7 @@ use Rattle.rh_rule.specs.declared.schema.Param.{Param}
 use Rattle.rh_rule.specs.declared.schema.Schema.{Schema}
 use Rattle.rh_domain.specs.declared.domain.Domain.{Domain}
 use Rattle.rh_domain.specs.Binding.{args_in}
-use Rattle.rh_domain.specs.Count.{AreFew, IsSmall, binding_count, fact_count}
+use Rattle.rh_domain.specs.Count.{IsSmall, binding_count, fact_count}
 use Rattle.rh_domain.proofs.Numbered.{var_count}
 
 few_args : (domain : Domain) (kind : Kind) → IsSmall domain → length (args_in domain kind) ≤ 2050

@@ -77,13 +77,7 @@ fn variable_number(vars: u32, arg: Arg) -> Option<u32>
     ensures none { IfNone result ((number : ℕ) → slice_get (map Var (range_with_len 0 vars)) number ≢ Some arg) }
 {
     match arg {
-        Arg::Var(number) => {
-            if number < vars {
-                Some(number)
-            } else {
-                None
-            }
-        }
+        Arg::Var(number) => { if number < vars { Some(number) } else { None } }
         Arg::Const(_) => None,
     }
 }

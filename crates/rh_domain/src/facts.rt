@@ -72,7 +72,13 @@ pub fn number_of(
 }
 
 /// The fact of a schema with a number among so many of them.
-fn fact_of_schema(domain: &Domain, shape: &Schema, schema: u32, count: u32, number: u32) -> GroundFact
+fn fact_of_schema(
+    domain: &Domain,
+    shape: &Schema,
+    schema: u32,
+    count: u32,
+    number: u32,
+) -> GroundFact
     requires small { IsSmall domain.now }
     requires few { length shape.now.params ≤ 6 }
     requires count { count ≡ binding_count domain.now shape.now.params }

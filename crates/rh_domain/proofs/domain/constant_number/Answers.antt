@@ -1,4 +1,4 @@
-use Rattle.std.proofs.Common.{ℕ, ℤ, ◌≡◌, ◌≢◌, Some, map, subst, sym, w64, rules}
+use Rattle.std.proofs.Common.{ℕ, ℤ, ◌≢◌, Some, map, subst, sym, w64, rules}
 use Rattle.std.proofs.lemmas.Int.{to_z-of_z}
 use Rattle.std.specs.Prelude.{slice_get, IfNone}
 use Rattle.rh_rule.specs.declared.rule.Arg.{Arg}

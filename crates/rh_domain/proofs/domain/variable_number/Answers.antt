@@ -1,4 +1,4 @@
-use Rattle.std.proofs.Common.{ℕ, ◌≡◌, ◌≢◌, Some, map, subst, sym, arith}
+use Rattle.std.proofs.Common.{◌≡◌, ◌≢◌, Some, map, subst, sym, arith}
 use Rattle.std.specs.List.{range_with_len}
 use Rattle.std.specs.Prelude.{slice_get}
 use Rattle.rh_rule.specs.declared.rule.Arg.{Arg}

@@ -1,4 +1,4 @@
-use Rattle.std.proofs.Common.{◌+◌, ap, length, refl, sym, ◌∙◌, arith}
+use Rattle.std.proofs.Common.{ap, length, refl, ◌∙◌, arith}
 use Rattle.std.proofs.lemmas.Option.{slice_get_read}
 use Rattle.rh_domain.specs.Count.{binding_count, fact_count}
 use Rattle.rh_domain.proofs.Bounds.{few_facts}

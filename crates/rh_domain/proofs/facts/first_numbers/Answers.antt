@@ -1,4 +1,4 @@
-use Rattle.std.proofs.Common.{◌≡◌, ◌+◌, ◌∷◌, ◌++◌, [], Some, take, ap, length, refl, sym, ◌∙◌, subst, arith, ℕ, List, ◌≤◌}
+use Rattle.std.proofs.Common.{◌≡◌, ◌+◌, ◌∷◌, [], Some, take, ap, length, refl, sym, ◌∙◌, subst, arith, ℕ, List, ◌≤◌}
 use Rattle.std.proofs.Math.ListN.{length-append}
 use Rattle.std.proofs.lemmas.Option.{slice_get_read}
 use Rattle.std.specs.Prelude.{slice_get}
@@ -28,8 +28,9 @@ loop-schema-preserved c =
     let same = c.binding_count.ensures ∙ ap (binding_count c.args.domain.now) c.as_slice.ensures.value in
     let next : c.loop-schema.next + c.binding_count.result ≡ fact_count c.args.domain.now (take (i + 1) c.args.schemas.now) = omega (arith, more, same, c.loop-schema.invariant.1) in
     let size = length-append c.loop-schema.firsts ((c.loop-schema.next + c.binding_count.result) ∷ []) in
-    let whole = ap length c.in_ok-push-2.ensures.ok in
-    (omega (arith, size, whole, c.loop-schema.invariant.0),
-    next,
-    subst (λ (firsts : List ℕ). (k : ℕ) → k ≤ i + 1 → slice_get firsts k ≡ Some (fact_count c.args.domain.now (take k c.args.schemas.now))) (sym c.in_ok-push-2.ensures.ok)
-    (pushed c.loop-schema.firsts i (c.loop-schema.next + c.binding_count.result) (λ k. fact_count c.args.domain.now (take k c.args.schemas.now)) c.loop-schema.invariant.0 next c.loop-schema.invariant.2))
+    let whole = ap length c.in_ok-push-2.ensures.ok in (
+      omega (arith, size, whole, c.loop-schema.invariant.0),
+      next,
+      subst (λ (firsts : List ℕ). (k : ℕ) → k ≤ i + 1 → slice_get firsts k ≡ Some (fact_count c.args.domain.now (take k c.args.schemas.now))) (sym c.in_ok-push-2.ensures.ok)
+          (pushed c.loop-schema.firsts i (c.loop-schema.next + c.binding_count.result) (λ k. fact_count c.args.domain.now (take k c.args.schemas.now)) c.loop-schema.invariant.0 next c.loop-schema.invariant.2),
+    )

@@ -1,4 +1,4 @@
-use Rattle.std.proofs.Common.{◌≡◌, ◌*◌, ap, sym, ◌∙◌, length, arith}
+use Rattle.std.proofs.Common.{◌*◌, ap, ◌∙◌, length, arith}
 use Rattle.rh_domain.specs.Binding.{args_in}
 use Rattle.rh_domain.specs.Count.{binding_count}
 use Rattle.rh_domain.proofs.Bounds.{few_bindings}

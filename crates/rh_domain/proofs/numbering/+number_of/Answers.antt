@@ -1,6 +1,5 @@
-use Rattle.std.proofs.Common.{ℕ, ap, arith, length, ◌*◌, ◌+◌, ◌<◌, ◌∙◌, ◌≡◌, sym}
-use Rattle.rh_domain.specs.Count.{binding_count}
-use Rattle.rh_domain.proofs.Joined.{found_joined, no_args, no_digit, no_rest, number_below, others_fewer, empty}
+use Rattle.std.proofs.Common.{arith}
+use Rattle.rh_domain.proofs.Joined.{found_joined, no_args, no_digit, no_rest, number_below, empty}
 use Rattle.rh_domain.proofs.numbering.+number_of.Goals as goal
 
 pub returns-in_default-split_first-clause-none : goal.returns-in_default-split_first-clause-none
