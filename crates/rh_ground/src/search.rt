@@ -6,8 +6,8 @@ ghost use Rattle.rh_domain.specs.Binding.{Binding, bindings, bound};
 ghost use Rattle.rh_ground.specs.Match.{is_operand, is_variable, matches};
 ghost use Rattle.rh_ground.specs.Search.{AreVars, Finds};
 
-use rh_domain::as_base;
 use crate::matching::matches;
+use rh_domain::as_base;
 use rh_il::{Base, Proc, Stmt};
 use rh_rule::{Arg, Form, Param, RuleBase};
 use std::alloc::{AllocError, Global};
