@@ -4,3 +4,8 @@ pub mod Pieces
 pub mod Joined
 pub mod Bounds
 pub mod FactNumbers
+pub mod Rising
+pub mod FlowEdges
+pub mod FactsApart
+pub mod EdgeWords
+pub mod FactBits
