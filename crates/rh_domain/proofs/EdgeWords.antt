@@ -1,5 +1,5 @@
 -- Where the words of edges stand.
-use Rattle.std.proofs.Common.{ℕ, zero, suc, ◌≡◌, ◌+◌, ◌*◌, ◌<◌, ◌≤◌, List, [], ◌∷◌, ◌++◌, length, take, get_or, Some, refl, ap, sym, ◌∙◌, subst, arith}
+use Rattle.std.proofs.Common.{ℕ, zero, suc, ◌≡◌, ◌+◌, ◌*◌, ◌<◌, ◌≤◌, List, [], ◌∷◌, ◌++◌, length, take, Some, refl, ap, sym, ◌∙◌, subst, arith}
 use Rattle.std.specs.List.{range_with_len}
 use Rattle.std.specs.Option.{option_map}
 use Rattle.std.specs.Prelude.{slice_get}
@@ -8,10 +8,11 @@ use Rattle.std.proofs.Math.Nat.{mul_comm}
 use Rattle.std.proofs.lemmas.List.{length-map}
 use Rattle.std.proofs.lemmas.List.FromFn.{length-range_with_len}
 use Rattle.std.proofs.lemmas.Nat.{mul-add-lt, same_from_place}
-use Rattle.std.proofs.lemmas.Option.{slice_get-get_or, slice_get-map, slice_get_within, same_Some}
+use Rattle.std.proofs.lemmas.Option.{slice_get-map, slice_get_within, same_Some}
 use Rattle.rh_il.specs.declared.program.Edge.{Edge}
 use Rattle.rh_il.specs.declared.program.Proc.{Proc}
 use Rattle.rh_il.specs.Flow.{edges_of}
+use Rattle.rh_list.proofs.AtPlace.{read_at}
 use Rattle.rh_rule.specs.declared.schema.Schema.{Schema}
 use Rattle.rh_domain.specs.Bits.{count_on, full_edge, full_proc, full_word, full_words, width_of, word_count}
 use Rattle.rh_domain.proofs.Numbered.{range_at}
@@ -160,7 +161,8 @@ module _ (schemas : List Schema) where
   pub stands : (procs : List Proc) (word : ℕ) → word < word_count schemas procs → Stands procs word
   stands procs word below =
       let size = words_counted procs in
-      stands_at procs word (get_or (full_words schemas procs) word 0) (slice_get-get_or (full_words schemas procs) word 0 (omega (arith, below, size)))
+      let found = read_at (full_words schemas procs) word (omega (arith, below, size)) in
+      stands_at procs word found.0 found.1
 
   -- and below the count
   pub word_below : (procs : List Proc) (word place : ℕ) (proc : Proc) (number within : ℕ) (edge : Edge) → IsWordAt procs word place proc number within edge → word < word_count schemas procs

@@ -1,5 +1,5 @@
 -- A bit is that of one fact, a fact has one bit, and the full words have the bits of all facts and no others.
-use Rattle.std.proofs.Common.{ℕ, ◌≡◌, ◌+◌, ◌-◌, ◌*◌, ◌/◌, ◌%◌, ◌<◌, min, true, zero, suc, List, [], ◌∷◌, length, get_or, take, Option, Some, None, ⊎_elim, refl, ap, sym, ◌∙◌, arith, eq-eqb, eqb-true}
+use Rattle.std.proofs.Common.{ℕ, ◌≡◌, ◌+◌, ◌-◌, ◌*◌, ◌/◌, ◌%◌, ◌<◌, min, true, List, length, get_or, take, Some, None, ⊎_elim, ap, sym, ◌∙◌, arith, eq-eqb, eqb-true}
 use Rattle.std.specs.Int.{bit_at}
 use Rattle.std.specs.Prelude.{slice_get, slice_index}
 use Rattle.std.proofs.lemmas.Bool.{cases_lt}
@@ -9,6 +9,7 @@ use Rattle.std.proofs.lemmas.Option.{get_or_from_slice_get, slice_get_within, sa
 use Rattle.rh_il.specs.declared.program.Edge.{Edge}
 use Rattle.rh_il.specs.declared.program.Proc.{Proc}
 use Rattle.rh_il.specs.Flow.{edges_of}
+use Rattle.rh_list.proofs.AtPlace.{read_at}
 use Rattle.rh_rule.specs.declared.schema.Schema.{Schema}
 use Rattle.rh_domain.specs.declared.fact.FactAt.{FactAt}
 use Rattle.rh_domain.specs.declared.fact.GroundFact.{GroundFact}
@@ -29,11 +30,6 @@ one_of count within place low is =
     ⊎_elim (λ below. (let less : place < min 64 (count - 64 * within) = below in omega arith))
     (λ past. let none = bit_at_ones_above (min 64 (count - 64 * within)) place past in absurd (omega (arith, none, is)))
     (cases_lt place (min 64 (count - 64 * within)))
-
-there : {X : Type 0} (xs : List X) (k : ℕ) → k < length xs → slice_get xs k ≡ None → ⊥
-there [] k below none = absurd (omega (arith, below))
-there (x ∷ xs) zero below none = absurd cc
-there (x ∷ xs) (suc k) below none = there xs k (omega (arith, below)) none
 
 module _ (schemas : List Schema) where
   fact_total : (proc : Proc) → length (facts_of schemas proc) ≡ count_on schemas proc
@@ -112,12 +108,8 @@ module _ (schemas : List Schema) where
         let read = get_or_from_slice_get (full_words schemas procs) (bit / 64) word 0 (full_at schemas procs (bit / 64) stands.place stands.proc stands.number stands.within stands.edge stands.is_at) in
         let below = one_of (count_on schemas stands.proc) stands.within (bit % 64) (omega arith) (ap (λ w. bit_at w (bit % 64)) (sym read) ∙ is) in
         let size = fact_total stands.proc in
-        by (slice_get (facts_of schemas stands.proc) (64 * stands.within + bit % 64)) refl (omega (arith, below, size))
-      where
-        by : (o : Option GroundFact) → slice_get (facts_of schemas stands.proc) (64 * stands.within + bit % 64) ≡ o → 64 * stands.within + bit % 64 < length (facts_of schemas stands.proc)
-            → (fact : FactAt) × IsBitOf schemas procs bit fact
-        by (Some fact) read below = (record { proc = stands.place; edge = stands.edge; fact = fact }, bit_at_place bit stands.place stands.proc stands.number stands.within stands.edge fact stands.is_at read)
-        by None none below = absurd (there (facts_of schemas stands.proc) (64 * stands.within + bit % 64) below none)
+        let found = read_at (facts_of schemas stands.proc) (64 * stands.within + bit % 64) (omega (arith, below, size)) in
+        (record { proc = stands.place; edge = stands.edge; fact = found.0 }, bit_at_place bit stands.place stands.proc stands.number stands.within stands.edge found.0 stands.is_at found.1)
 
     pub full_facts : (bit : ℕ) → is_full_at schemas procs bit ≡ true → (fact : FactAt) × IsBitOf schemas procs bit fact
     full_facts bit is =

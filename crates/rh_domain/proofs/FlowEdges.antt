@@ -1,7 +1,9 @@
 -- The edges of a procedure: each stands at one place, and there are at most two for each statement.
 use Rattle.std.proofs.Common.{ℕ, zero, suc, ◌≡◌, ◌+◌, ◌*◌, ◌≤◌, List, [], ◌∷◌, length, Some, refl, ap, sym, ◌∙◌, arith, ⊎_elim}
+use Rattle.std.specs.Int.{div_ceil}
 use Rattle.std.specs.Prelude.{slice_get}
 use Rattle.std.proofs.Math.ListN.{length-append}
+use Rattle.std.proofs.Math.Nat.{mul-le-mul}
 use Rattle.std.proofs.lemmas.Option.{same_Some}
 use Rattle.rh_il.specs.declared.program.Stmt.{Stmt}
 use Rattle.rh_il.specs.declared.program.Stmt.TheVariants.{If, Return}
@@ -9,6 +11,7 @@ use Rattle.rh_il.specs.declared.program.Proc.{Proc}
 use Rattle.rh_il.specs.declared.program.Node.TheVariants.{Entry, At}
 use Rattle.rh_il.specs.declared.program.Slot.TheVariants.{Out, Then, Else}
 use Rattle.rh_il.specs.declared.program.Edge.{Edge}
+use Rattle.rh_il.specs.Checks.{ProcPassed}
 use Rattle.rh_il.specs.Flow.{edges_behind, edges_from, edges_of}
 use Rattle.rh_domain.proofs.Pieces.{get_side}
 
@@ -108,3 +111,16 @@ edges_apart proc (suc i) (suc j) x one two = ap suc (behind_apart proc.body 0 i 
 
 pub edges_few : (proc : Proc) (most : ℕ) → length proc.body ≤ most → length (edges_of proc) ≤ 1 + 2 * most
 edges_few proc most few = let rest = behind_few proc.body 0 in omega (arith, rest, few)
+
+-- a procedure of a program has few of them, and they have few words
+pub edges_size : (proc : Proc) (body : List Stmt) (size : ℕ) → ProcPassed proc → body ≡ proc.body → size ≡ length (record { node = Entry; slot = Out } ∷ edges_behind body 0) → size ≤ 2049
+edges_size proc body size passed same is =
+    let few = edges_few proc 1024 passed.body in
+    let whole : length (edges_behind body 0) ≡ length (edges_behind proc.body 0) = ap (λ b. length (edges_behind b 0)) same in
+    omega (arith, few, whole, is)
+
+few_wide : (count : ℕ) → count ≤ 65536 → div_ceil count 64 ≤ 1024
+few_wide count few = grind (arith, few)
+
+pub words_size : (size width count : ℕ) → size ≤ 2049 → width ≡ div_ceil count 64 → count ≤ 65536 → size * width ≤ 2098176
+words_size size width count short is few = let low = few_wide count few in mul-le-mul short (let less : width ≤ 1024 = omega (arith, is, low) in less)

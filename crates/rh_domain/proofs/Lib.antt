@@ -9,3 +9,5 @@ pub mod FlowEdges
 pub mod FactsApart
 pub mod EdgeWords
 pub mod FactBits
+pub mod Small
+pub mod LaidOut

@@ -4,3 +4,4 @@ pub mod Facts
 pub mod Count
 pub mod First
 pub mod Bits
+pub mod Layout

@@ -1,0 +1,114 @@
+//! The part of a layout on one procedure.
+ghost use Rattle.std.specs.Prelude.{◌≡◌, ◌+◌, ◌*◌, ◌≤◌, IfErr, IfOk};
+ghost use Rattle.rh_il.specs.Checks.{ProcPassed};
+ghost use Rattle.rh_domain.specs.Count.{AreFew, IsSmall};
+ghost use Rattle.rh_domain.specs.Binding.{domain_of};
+ghost use Rattle.rh_domain.specs.Layout.{IsFaultAt, IsLaidProc};
+
+use crate::domain::Domain;
+use crate::edges::edges_of;
+use crate::facts::{fact_count, first_numbers};
+use rh_il::{Edge, Proc};
+use rh_list::Items;
+use rh_rule::Schema;
+use std::alloc::{AllocError, AllocFailed, Global};
+
+/// How many facts a procedure may have.
+const MOST_FACTS: u128 = 65536;
+
+/// The facts, the edges and the words of a procedure.
+#[derive(Drop)]
+pub struct LaidProc {
+    /// Its variables and constants.
+    pub domain: Domain,
+    /// For each schema the number of its first fact, and at the end how many facts there are.
+    pub firsts: Items<u32>,
+    /// How many facts there are on an edge.
+    pub facts: u32,
+    /// How many words an edge has.
+    pub width: u32,
+    /// Its edges, in their order.
+    pub edges: Items<Edge>,
+    /// Its first word.
+    pub first_word: u32,
+    /// The first word after its own.
+    pub next_word: u32,
+}
+
+/// Why a program has no layout.
+#[derive(Clone, Copy, Debug, PartialEq, Eq)]
+pub enum LayoutFault {
+    /// The first procedure with more than 65,536 facts, and how many it has.
+    TooManyFacts { proc: u32, count: u128 },
+    /// There are more than 2,097,152 words. So many there are.
+    TooManyWords(u64),
+    NoMemory,
+}
+
+impl From<AllocError> for LayoutFault {
+    ghost use Rattle.rh_domain.specs.declared.laid.LayoutFault.TheVariants.{NoMemory};
+
+    ghost from_gives = { λ _ fault. fault ≡ NoMemory };
+
+    fn from(_error: AllocError) -> LayoutFault {
+        LayoutFault::NoMemory
+    }
+}
+
+impl<T: Drop> From<AllocFailed<T>> for LayoutFault {
+    ghost use Rattle.rh_domain.specs.declared.laid.LayoutFault.TheVariants.{NoMemory};
+
+    ghost from_gives = { λ _ fault. fault ≡ NoMemory };
+
+    fn from(_failed: AllocFailed<T>) -> LayoutFault {
+        LayoutFault::NoMemory
+    }
+}
+
+/// The variables and constants of a procedure of a program.
+fn small_domain(alloc: Global, proc: &Proc) -> Result<Domain, AllocError>
+    requires { ProcPassed proc.now }
+    ensures domain { IfOk result (λ domain. domain ≡ domain_of proc.now) }
+    ensures small { IfOk result (λ domain. IsSmall domain) }
+{
+    Domain::of(alloc, proc)
+}
+
+/// The part of a layout on the procedure with this number, whose words begin with this one.
+pub(crate) fn lay_out(
+    alloc: Global,
+    schemas: &[Schema],
+    number: u32,
+    proc: &Proc,
+    first_word: u32,
+) -> Result<LaidProc, LayoutFault>
+    requires few { AreFew schemas.now }
+    requires short { ProcPassed proc.now }
+    requires room { first_word ≤ 255 * 2098176 }
+    ensures laid { IfOk result (IsLaidProc schemas.now proc.now first_word) }
+    ensures next { IfOk result (λ laid. laid.next_word ≤ first_word + 2098176) }
+    ensures fault { IfErr result (IsFaultAt schemas.now number proc.now) }
+{
+    let domain = small_domain(alloc, proc)?;
+    let count = fact_count(&domain, schemas);
+    if count > MOST_FACTS {
+        return Err(LayoutFault::TooManyFacts {
+            proc: number,
+            count,
+        });
+    }
+    let facts = count as u32;
+    let width = facts.div_ceil(64);
+    let firsts = first_numbers(alloc, &domain, schemas)?;
+    let edges = Items::from(edges_of(alloc, proc.body.as_slice())?);
+    let next_word = first_word + edges.len() as u32 * width;
+    Ok(LaidProc {
+        domain,
+        firsts,
+        facts,
+        width,
+        edges,
+        first_word,
+        next_word,
+    })
+}

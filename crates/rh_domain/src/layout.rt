@@ -1,0 +1,46 @@
+//! The facts on the edges of a program as bits of words. `Layout::new` lays them out, and the other calls find the
+//! fact of a bit and the bit of a fact.
+ghost use Rattle.std.specs.Prelude.{◌≡◌, IfErr, IfOk};
+ghost use Rattle.rh_domain.specs.Count.{AreFew};
+ghost use Rattle.rh_domain.specs.Layout.{IsFaultOf, IsLayoutOf};
+
+use crate::laid::{LaidProc, LayoutFault, lay_out};
+use rh_il::Program;
+use rh_list::Items;
+use rh_rule::Schema;
+use std::alloc::Global;
+
+/// How many words there may be in all.
+const MOST_WORDS: u32 = 2097152;
+
+/// Which bit stands for which fact on which edge.
+#[derive(Drop)]
+pub struct Layout {
+    /// The procedures, in the order of the program.
+    pub procs: Items<LaidProc>,
+    words: u32,
+}
+
+impl Layout {
+    /// The layout for the schemas of a rule file and a program.
+    pub fn new(alloc: Global, schemas: &[Schema], program: &Program) -> Result<Layout, LayoutFault>
+        requires { AreFew schemas.now }
+        ensures layout { IfOk result (IsLayoutOf schemas.now program.now) }
+        ensures fault { IfErr result (IsFaultOf schemas.now program.now) }
+    {
+        let mut procs = Items::new(alloc);
+        let mut words: u32 = 0;
+        for number in 0..program.count() {
+            let Some(proc) = program.proc(number) else {
+                unreachable!()
+            };
+            let laid = lay_out(alloc, schemas, number, proc, words)?;
+            words = laid.next_word;
+            procs.push(laid)?;
+        }
+        if words > MOST_WORDS {
+            return Err(LayoutFault::TooManyWords(u64::from(words)));
+        }
+        Ok(Layout { procs, words })
+    }
+}
