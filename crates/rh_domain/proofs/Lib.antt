@@ -11,3 +11,4 @@ pub mod EdgeWords
 pub mod FactBits
 pub mod Small
 pub mod LaidOut
+pub mod LaidWords

@@ -1,9 +1,10 @@
 //! The part of a layout on one procedure.
-ghost use Rattle.std.specs.Prelude.{◌≡◌, ◌+◌, ◌*◌, ◌≤◌, IfErr, IfOk};
+ghost use Rattle.std.specs.Prelude.{◌≡◌, ◌+◌, ◌-◌, ◌*◌, ◌%◌, ◌^◌, ◌<◌, ◌≤◌, min, IfErr, IfOk};
 ghost use Rattle.rh_il.specs.Checks.{ProcPassed};
 ghost use Rattle.rh_domain.specs.Count.{AreFew, IsSmall};
 ghost use Rattle.rh_domain.specs.Binding.{domain_of};
-ghost use Rattle.rh_domain.specs.Layout.{IsFaultAt, IsLaidProc};
+ghost use Rattle.rh_domain.specs.Bits.{full_word};
+ghost use Rattle.rh_domain.specs.Layout.{IsFaultAt, IsLaidProc, has_word};
 
 use crate::domain::Domain;
 use crate::edges::edges_of;
@@ -111,4 +112,35 @@ pub(crate) fn lay_out(
         first_word,
         next_word,
     })
+}
+
+impl LaidProc {
+    /// Whether a word is one of the procedure's.
+    pub(crate) fn has_word(&self, word: u64) -> bool
+        ensures { result ≡ has_word word self.now }
+    {
+        u64::from(self.first_word) <= word && word < u64::from(self.next_word)
+    }
+
+    /// One of the procedure's words with all the facts that stand in it.
+    pub(crate) fn full_word(&self, word: u32) -> u64
+        requires from { self.now.first_word ≤ word }
+        requires some { 0 < self.now.width }
+        requires few { self.now.width ≤ 1024 }
+        ensures { result ≡ full_word self.now.facts ((word - self.now.first_word) % self.now.width) }
+    {
+        let within = (word - self.first_word) % self.width;
+        ones(self.facts.saturating_sub(64 * within))
+    }
+}
+
+/// A word with so many ones at its lowest places, or with ones alone.
+fn ones(count: u32) -> u64
+    ensures { result ≡ 2 ^ min 64 count - 1 }
+{
+    if count < 64 {
+        (1 << count) - 1
+    } else {
+        u64::MAX
+    }
 }

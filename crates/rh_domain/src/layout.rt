@@ -1,8 +1,12 @@
 //! The facts on the edges of a program as bits of words. `Layout::new` lays them out, and the other calls find the
 //! fact of a bit and the bit of a fact.
-ghost use Rattle.std.specs.Prelude.{◌≡◌, IfErr, IfOk};
+ghost use Rattle.std.specs.Prelude.{ℕ, List, ◌≡◌, IfErr, IfOk, slice_index};
+ghost use Rattle.std.specs.List.{position};
+ghost use Rattle.rh_il.specs.declared.program.Proc.{Proc};
+ghost use Rattle.rh_rule.specs.declared.schema.Schema.{Schema};
+ghost use Rattle.rh_domain.specs.Bits.{full_words, word_count};
 ghost use Rattle.rh_domain.specs.Count.{AreFew};
-ghost use Rattle.rh_domain.specs.Layout.{IsFaultOf, IsLayoutOf};
+ghost use Rattle.rh_domain.specs.Layout.{IsFaultOf, IsLayoutOf, has_word};
 
 use crate::laid::{LaidProc, LayoutFault, lay_out};
 use rh_il::Program;
@@ -42,5 +46,33 @@ impl Layout {
             return Err(LayoutFault::TooManyWords(u64::from(words)));
         }
         Ok(Layout { procs, words })
+    }
+
+    /// How many words there are.
+    pub fn words(&self) -> u32
+        ensures { (schemas : List Schema) (procs : List Proc) → IsLayoutOf schemas procs self.now → result ≡ word_count schemas procs }
+    {
+        self.words
+    }
+
+    /// A word in which each fact stands that it may hold. It is 0 past the last word.
+    pub fn full(&self, word: u32) -> u64
+        requires { (schemas : List Schema) × (procs : List Proc) × IsLayoutOf schemas procs self.now }
+        ensures { (schemas : List Schema) (procs : List Proc) → IsLayoutOf schemas procs self.now → result ≡ slice_index (full_words schemas procs) word }
+    {
+        match self.place_of(u64::from(word)) {
+            Some(place) => self.procs.as_slice()[place].full_word(word),
+            None => 0,
+        }
+    }
+
+    /// The place of the procedure that has a word.
+    fn place_of(&self, word: u64) -> Option<usize>
+        ensures { result ≡ position (has_word word) self.now.procs }
+    {
+        self.procs
+            .as_slice()
+            .iter()
+            .position(|laid| laid.has_word(word))
     }
 }
