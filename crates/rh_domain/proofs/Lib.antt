@@ -12,3 +12,4 @@ pub mod FactBits
 pub mod Small
 pub mod LaidOut
 pub mod LaidWords
+pub mod BitFacts

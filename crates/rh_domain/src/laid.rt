@@ -1,14 +1,19 @@
 //! The part of a layout on one procedure.
-ghost use Rattle.std.specs.Prelude.{◌≡◌, ◌+◌, ◌-◌, ◌*◌, ◌%◌, ◌^◌, ◌<◌, ◌≤◌, min, IfErr, IfOk};
+ghost use Rattle.std.specs.Prelude.{◌≡◌, ◌+◌, ◌-◌, ◌*◌, ◌/◌, ◌%◌, ◌^◌, ◌<◌, ◌≤◌, min, length, slice_get, IfErr, IfOk};
+ghost use Rattle.std.specs.Option.{option_map};
+ghost use Rattle.rh_il.specs.declared.program.Edge.{Edge};
 ghost use Rattle.rh_il.specs.Checks.{ProcPassed};
 ghost use Rattle.rh_domain.specs.Count.{AreFew, IsSmall};
 ghost use Rattle.rh_domain.specs.Binding.{domain_of};
 ghost use Rattle.rh_domain.specs.Bits.{full_word};
+ghost use Rattle.rh_domain.specs.Facts.{facts_over};
+ghost use Rattle.rh_domain.specs.First.{AreFirsts};
 ghost use Rattle.rh_domain.specs.Layout.{IsFaultAt, IsLaidProc, has_word};
 
 use crate::domain::Domain;
 use crate::edges::edges_of;
-use crate::facts::{fact_count, first_numbers};
+use crate::fact::FactAt;
+use crate::facts::{fact_at, fact_count, first_numbers};
 use rh_il::{Edge, Proc};
 use rh_list::Items;
 use rh_rule::Schema;
@@ -131,6 +136,32 @@ impl LaidProc {
     {
         let within = (word - self.first_word) % self.width;
         ones(self.facts.saturating_sub(64 * within))
+    }
+
+    /// The fact that a bit of one of the procedure's words stands for. `number` is the procedure's.
+    pub(crate) fn fact_of(&self, schemas: &[Schema], number: u32, bit: u64) -> Option<FactAt>
+        requires small { IsSmall self.now.domain }
+        requires few { AreFew schemas.now }
+        requires firsts { AreFirsts self.now.domain schemas.now self.now.firsts }
+        requires some { 0 < self.now.width }
+        requires narrow { self.now.width ≤ 1024 }
+        requires from { self.now.first_word ≤ bit / 64 }
+        requires below { bit / 64 < self.now.next_word }
+        requires edge { (bit / 64 - self.now.first_word) / self.now.width < length self.now.edges }
+        ensures { (edge : Edge) → slice_get self.now.edges ((bit / 64 - self.now.first_word) / self.now.width) ≡ Some edge → result ≡ option_map (λ fact. record { proc = number; edge = edge; fact = fact }) (slice_get (facts_over self.now.domain schemas.now) (64 * ((bit / 64 - self.now.first_word) % self.now.width) + bit % 64)) }
+    {
+        let word = (bit / 64) as u32 - self.first_word;
+        let place = (bit % 64) as u32;
+        let within = 64 * (word % self.width) + place;
+        let Some(fact) = fact_at(&self.domain, schemas, self.firsts.as_slice(), within) else {
+            return None;
+        };
+        let edge = self.edges.as_slice()[(word / self.width) as usize];
+        Some(FactAt {
+            proc: number,
+            edge,
+            fact,
+        })
     }
 }
 

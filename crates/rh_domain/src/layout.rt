@@ -1,13 +1,15 @@
 //! The facts on the edges of a program as bits of words. `Layout::new` lays them out, and the other calls find the
 //! fact of a bit and the bit of a fact.
-ghost use Rattle.std.specs.Prelude.{ℕ, List, ◌≡◌, IfErr, IfOk, slice_index};
+ghost use Rattle.std.specs.Prelude.{ℕ, List, ◌≡◌, IfErr, IfNone, IfOk, IfSome, slice_index};
 ghost use Rattle.std.specs.List.{position};
 ghost use Rattle.rh_il.specs.declared.program.Proc.{Proc};
 ghost use Rattle.rh_rule.specs.declared.schema.Schema.{Schema};
-ghost use Rattle.rh_domain.specs.Bits.{full_words, word_count};
+ghost use Rattle.rh_domain.specs.declared.fact.FactAt.{FactAt};
+ghost use Rattle.rh_domain.specs.Bits.{IsBitOf, full_words, word_count};
 ghost use Rattle.rh_domain.specs.Count.{AreFew};
 ghost use Rattle.rh_domain.specs.Layout.{IsFaultOf, IsLayoutOf, has_word};
 
+use crate::fact::FactAt;
 use crate::laid::{LaidProc, LayoutFault, lay_out};
 use rh_il::Program;
 use rh_list::Items;
@@ -64,6 +66,16 @@ impl Layout {
             Some(place) => self.procs.as_slice()[place].full_word(word),
             None => 0,
         }
+    }
+
+    /// The fact that a bit stands for, where it stands for one. The schemas are those that the layout is for.
+    pub fn fact_of(&self, schemas: &[Schema], bit: u64) -> Option<FactAt>
+        requires { (procs : List Proc) × IsLayoutOf schemas.now procs self.now }
+        ensures found { IfSome result (λ fact. (procs : List Proc) → IsLayoutOf schemas.now procs self.now → IsBitOf schemas.now procs bit fact) }
+        ensures none { IfNone result ((procs : List Proc) → IsLayoutOf schemas.now procs self.now → (fact : FactAt) → ¬ IsBitOf schemas.now procs bit fact) }
+    {
+        let place = self.place_of(bit / 64)?;
+        self.procs.as_slice()[place].fact_of(schemas, place as u32, bit)
     }
 
     /// The place of the procedure that has a word.
