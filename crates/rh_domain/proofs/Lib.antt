@@ -13,3 +13,4 @@ pub mod Small
 pub mod LaidOut
 pub mod LaidWords
 pub mod BitFacts
+pub mod FactOn

@@ -1,17 +1,17 @@
 -- What a layout has to say of the facts on the edges of a program.
-use Rattle.std.specs.Prelude.{ℕ, ◌≡◌, ◌+◌, ◌*◌, ◌<◌, ◌≤◌, Bool, ◌&&◌, nat_le, nat_lt, List, Option, Some, length, take, slice_get}
-use Rattle.std.specs.Option.{option_and_then}
+use Rattle.std.specs.Prelude.{ℕ, ◌≡◌, ◌+◌, ◌*◌, ◌<◌, ◌≤◌, Bool, ◌&&◌, nat_le, nat_lt, List, Some, length, take, slice_get}
 use Rattle.rh_list.specs.Each.{Each, EachBefore}
 use Rattle.rh_il.specs.declared.program.Edge.{Edge}
 use Rattle.rh_il.specs.declared.program.Proc.{Proc}
 use Rattle.rh_il.specs.Flow.{edges_of}
 use Rattle.rh_rule.specs.declared.schema.Schema.{Schema}
+use Rattle.rh_domain.specs.declared.fact.GroundFact.{GroundFact}
 use Rattle.rh_domain.specs.declared.layout.Layout.{Layout}
 use Rattle.rh_domain.specs.declared.laid.LaidProc.{LaidProc}
 use Rattle.rh_domain.specs.declared.laid.LayoutFault.{LayoutFault}
 use Rattle.rh_domain.specs.declared.laid.LayoutFault.TheVariants.{NoMemory, TooManyFacts, TooManyWords}
 use Rattle.rh_domain.specs.Binding.{domain_of}
-use Rattle.rh_domain.specs.Bits.{count_on, width_of, word_count}
+use Rattle.rh_domain.specs.Bits.{IsBitOf, count_on, width_of, word_count}
 use Rattle.rh_domain.specs.Count.{AreFew, IsSmall}
 use Rattle.rh_domain.specs.First.{AreFirsts}
 
@@ -76,6 +76,10 @@ pub record IsLayoutOf (schemas : List Schema) (procs : List Proc) (layout : Layo
 abbrev pub has_word : ℕ → LaidProc → Bool
 has_word word laid = nat_le laid.first_word word && nat_lt word laid.next_word
 
--- the edge with a number among those of a procedure
-abbrev pub edge_at : List Proc → ℕ → ℕ → Option Edge
-edge_at procs proc edge = option_and_then (λ p. slice_get (edges_of p) edge) (slice_get procs proc)
+-- the bit of a fact on the edge with a number among those of a procedure
+pub record IsBitOn (schemas : List Schema) (procs : List Proc) (proc edge : ℕ) (fact : GroundFact) (bit : ℕ) : Type 0 where
+  pub shape : Proc
+  pub shape_at : slice_get procs proc ≡ Some shape
+  pub on : Edge
+  pub on_at : slice_get (edges_of shape) edge ≡ Some on
+  pub is : IsBitOf schemas procs bit (record { proc = proc; edge = on; fact = fact })

@@ -1,9 +1,9 @@
 //! The part of a layout on one procedure.
-ghost use Rattle.std.specs.Prelude.{◌≡◌, ◌+◌, ◌-◌, ◌*◌, ◌/◌, ◌%◌, ◌^◌, ◌<◌, ◌≤◌, min, length, slice_get, IfErr, IfOk};
+ghost use Rattle.std.specs.Prelude.{ℕ, ◌≡◌, ◌≢◌, ◌+◌, ◌-◌, ◌*◌, ◌/◌, ◌%◌, ◌^◌, ◌<◌, ◌≤◌, min, length, slice_get, IfErr, IfNone, IfOk, IfSome};
 ghost use Rattle.std.specs.Option.{option_map};
 ghost use Rattle.rh_il.specs.declared.program.Edge.{Edge};
 ghost use Rattle.rh_il.specs.Checks.{ProcPassed};
-ghost use Rattle.rh_domain.specs.Count.{AreFew, IsSmall};
+ghost use Rattle.rh_domain.specs.Count.{AreFew, IsSmall, fact_count};
 ghost use Rattle.rh_domain.specs.Binding.{domain_of};
 ghost use Rattle.rh_domain.specs.Bits.{full_word};
 ghost use Rattle.rh_domain.specs.Facts.{facts_over};
@@ -13,10 +13,10 @@ ghost use Rattle.rh_domain.specs.Layout.{IsFaultAt, IsLaidProc, has_word};
 use crate::domain::Domain;
 use crate::edges::edges_of;
 use crate::fact::FactAt;
-use crate::facts::{fact_at, fact_count, first_numbers};
+use crate::facts::{fact_at, fact_count, first_numbers, number_of};
 use rh_il::{Edge, Proc};
 use rh_list::Items;
-use rh_rule::Schema;
+use rh_rule::{Arg, Schema};
 use std::alloc::{AllocError, AllocFailed, Global};
 
 /// How many facts a procedure may have.
@@ -162,6 +162,30 @@ impl LaidProc {
             edge,
             fact,
         })
+    }
+
+    /// The bit of a fact on the edge with a number.
+    pub(crate) fn bit_of(
+        &self,
+        schemas: &[Schema],
+        edge: u32,
+        schema: u32,
+        args: &[Arg],
+    ) -> Option<u64>
+        requires small { IsSmall self.now.domain }
+        requires within { fact_count self.now.domain schemas.now ≤ 65536 }
+        requires firsts { AreFirsts self.now.domain schemas.now self.now.firsts }
+        requires room { self.now.first_word + length self.now.edges * self.now.width ≤ 2097152 }
+        ensures edge { IfSome result (λ bit. edge < length self.now.edges) }
+        ensures found { IfSome result (λ bit. (number : ℕ) × (slice_get (facts_over self.now.domain schemas.now) number ≡ Some (record { schema = schema; args = args.now })) × (bit ≡ 64 * (self.now.first_word + edge * self.now.width) + number)) }
+        ensures none { IfNone result (edge < length self.now.edges → (number : ℕ) → slice_get (facts_over self.now.domain schemas.now) number ≢ Some (record { schema = schema; args = args.now })) }
+    {
+        if edge as usize >= self.edges.len() {
+            return None;
+        }
+        let number = number_of(&self.domain, schemas, self.firsts.as_slice(), schema, args)?;
+        let word = self.first_word + edge * self.width;
+        Some(64 * u64::from(word) + u64::from(number))
     }
 }
 

@@ -7,13 +7,13 @@ ghost use Rattle.rh_rule.specs.declared.schema.Schema.{Schema};
 ghost use Rattle.rh_domain.specs.declared.fact.FactAt.{FactAt};
 ghost use Rattle.rh_domain.specs.Bits.{IsBitOf, full_words, word_count};
 ghost use Rattle.rh_domain.specs.Count.{AreFew};
-ghost use Rattle.rh_domain.specs.Layout.{IsFaultOf, IsLayoutOf, has_word};
+ghost use Rattle.rh_domain.specs.Layout.{IsBitOn, IsFaultOf, IsLayoutOf, has_word};
 
 use crate::fact::FactAt;
 use crate::laid::{LaidProc, LayoutFault, lay_out};
 use rh_il::Program;
 use rh_list::Items;
-use rh_rule::Schema;
+use rh_rule::{Arg, Schema};
 use std::alloc::Global;
 
 /// How many words there may be in all.
@@ -76,6 +76,24 @@ impl Layout {
     {
         let place = self.place_of(bit / 64)?;
         self.procs.as_slice()[place].fact_of(schemas, place as u32, bit)
+    }
+
+    /// The bit of a fact, where it is one of the program: of the schema with a number with these arguments, on the
+    /// edge with a number of a procedure. The schemas are those that the layout is for.
+    pub fn bit_of(
+        &self,
+        schemas: &[Schema],
+        proc: u32,
+        edge: u32,
+        schema: u32,
+        args: &[Arg],
+    ) -> Option<u64>
+        requires { (procs : List Proc) × IsLayoutOf schemas.now procs self.now }
+        ensures found { IfSome result (λ bit. (procs : List Proc) → IsLayoutOf schemas.now procs self.now → IsBitOn schemas.now procs proc edge (record { schema = schema; args = args.now }) bit) }
+        ensures none { IfNone result ((procs : List Proc) → IsLayoutOf schemas.now procs self.now → (bit : ℕ) → ¬ IsBitOn schemas.now procs proc edge (record { schema = schema; args = args.now }) bit) }
+    {
+        let laid = self.procs.as_slice().get(proc as usize)?;
+        laid.bit_of(schemas, edge, schema, args)
     }
 
     /// The place of the procedure that has a word.
