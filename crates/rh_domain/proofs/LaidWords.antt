@@ -18,7 +18,7 @@ use Rattle.rh_rule.specs.declared.schema.Schema.{Schema}
 use Rattle.rh_domain.specs.declared.laid.LaidProc.{LaidProc}
 use Rattle.rh_domain.specs.declared.layout.Layout.{Layout}
 use Rattle.rh_domain.specs.Bits.{count_on, full_word, full_words, width_of, word_count}
-use Rattle.rh_domain.specs.Layout.{IsLaidProc, IsLayoutOf, has_word}
+use Rattle.rh_domain.specs.Layout.{IsLaidProc, IsLayoutOf, edge_with, has_word, place_in_edge}
 use Rattle.rh_domain.proofs.EdgeWords.{IsWordAt, full_at, Stands, stands, width_in, within_proc, words_counted}
 
 any_at : {X : Type 0} (p : X → Bool) (xs : List X) (k : ℕ) (x : X) → slice_get xs k ≡ Some x → p x ≡ true → list_any p xs ≡ true
@@ -57,8 +57,8 @@ module _ (schemas : List Schema) (procs : List Proc) (layout : Layout) (word : �
     pub wide : 0 < laid.width
     pub narrow : laid.width ≤ 1024
     pub edge : Edge
-    pub edge_at : slice_get laid.edges ((word - laid.first_word) / laid.width) ≡ Some edge
-    pub is_at : IsWordAt schemas procs word place proc ((word - laid.first_word) / laid.width) ((word - laid.first_word) % laid.width) edge
+    pub edge_at : slice_get laid.edges (edge_with laid word) ≡ Some edge
+    pub is_at : IsWordAt schemas procs word place proc (edge_with laid word) (place_in_edge laid word) edge
 
   is_in : (place : ℕ) (proc : Proc) (laid : LaidProc) → slice_get procs place ≡ Some proc → IsLaidProc schemas proc (word_count schemas (take place procs)) laid
       → laid.first_word ≤ word → word < laid.next_word → IsIn place laid
@@ -67,11 +67,11 @@ module _ (schemas : List Schema) (procs : List Proc) (layout : Layout) (word : �
       let first = part.first_is in
       let next = part.next_is in
       let parts = digits word laid.first_word laid.width (length (edges_of proc)) from (omega (arith, below, first, next, rows)) in
-      let there = read_at (edges_of proc) ((word - laid.first_word) / laid.width) parts.row in
+      let there = read_at (edges_of proc) (edge_with laid word) parts.row in
       let column = parts.column in
       let width = part.width_is in
       let whole = parts.whole in
-      let inner : (word - laid.first_word) / laid.width * laid.width ≡ (word - laid.first_word) / laid.width * width_in schemas proc = ap (λ w. (word - laid.first_word) / laid.width * w) width in
+      let inner : edge_with laid word * laid.width ≡ edge_with laid word * width_in schemas proc = ap (λ w. edge_with laid word * w) width in
       record {
         proc = proc;
         proc_at = proc_at;
@@ -81,7 +81,7 @@ module _ (schemas : List Schema) (procs : List Proc) (layout : Layout) (word : �
         wide = parts.wide;
         narrow = (let few = part.few_facts in omega (arith, few, width));
         edge = there.0;
-        edge_at = ap (λ edges. slice_get edges ((word - laid.first_word) / laid.width)) part.edges_are ∙ there.1;
+        edge_at = ap (λ edges. slice_get edges (edge_with laid word)) part.edges_are ∙ there.1;
         is_at = record { proc_at = proc_at; edge_at = there.1; below = omega (arith, column, width); word_is = omega (arith, whole, inner, first) };
       }
 
@@ -116,13 +116,13 @@ module _ (schemas : List Schema) (procs : List Proc) (layout : Layout) (word : �
 
     -- the full word is as it is found
     pub found_full : (place : ℕ) (laid : LaidProc) → position (has_word word) layout.procs ≡ Some place → laid ≡ get_or layout.procs place laid
-        → full_word laid.facts ((word - laid.first_word) % laid.width) ≡ slice_index (full_words schemas procs) word
+        → full_word laid.facts (place_in_edge laid word) ≡ slice_index (full_words schemas procs) word
     found_full place laid here read =
         let at = found place laid here read in
-        let within = (word - laid.first_word) % laid.width in
+        let within = place_in_edge laid word in
         ap (λ n. full_word n within) at.part.facts_is
         ∙ sym (get_or_from_slice_get (full_words schemas procs) word (full_word (count_on schemas at.proc) within) 0
-        (full_at schemas procs word place at.proc ((word - laid.first_word) / laid.width) within at.edge at.is_at))
+        (full_at schemas procs word place at.proc (edge_with laid word) within at.edge at.is_at))
 
     pub past_full : position (has_word word) layout.procs ≡ None → 0 ≡ slice_index (full_words schemas procs) word
     past_full none =

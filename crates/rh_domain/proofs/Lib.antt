@@ -12,5 +12,5 @@ pub mod FactBits
 pub mod Small
 pub mod LaidOut
 pub mod LaidWords
-pub mod BitFacts
-pub mod FactOn
+pub mod FoundFacts
+pub mod FoundBits

@@ -1,5 +1,5 @@
 -- What a layout has to say of the facts on the edges of a program.
-use Rattle.std.specs.Prelude.{ℕ, ◌≡◌, ◌+◌, ◌*◌, ◌<◌, ◌≤◌, Bool, ◌&&◌, nat_le, nat_lt, List, Some, length, take, slice_get}
+use Rattle.std.specs.Prelude.{ℕ, ◌≡◌, ◌+◌, ◌-◌, ◌*◌, ◌/◌, ◌%◌, ◌<◌, ◌≤◌, Bool, ◌&&◌, nat_le, nat_lt, List, Some, length, take, slice_get}
 use Rattle.rh_list.specs.Each.{Each, EachBefore}
 use Rattle.rh_il.specs.declared.program.Edge.{Edge}
 use Rattle.rh_il.specs.declared.program.Proc.{Proc}
@@ -27,7 +27,7 @@ pub record IsCrowded (schemas : List Schema) (procs : List Proc) (number count :
   pub many : 65536 < count
   pub first : EachBefore (HasFewFacts schemas) procs number
 
--- no procedure has too many facts, and all of them have too many words
+-- no procedure has too many facts, but together they have too many words
 pub record IsTooWide (schemas : List Schema) (procs : List Proc) (count : ℕ) : Type 0 where
   pub few_facts : Each (HasFewFacts schemas) procs
   pub count_is : count ≡ word_count schemas procs
@@ -39,7 +39,7 @@ IsFaultOf schemas procs (TooManyFacts number count) = IsCrowded schemas procs nu
 IsFaultOf schemas procs (TooManyWords count) = IsTooWide schemas procs count
 IsFaultOf schemas procs NoMemory = Unit {0}
 
--- the fault of a procedure with this number
+-- what keeps the procedure with this number from having a part in a layout
 abbrev pub IsFaultAt : List Schema → ℕ → Proc → LayoutFault → Type 0
 IsFaultAt schemas number proc (TooManyFacts at count) = (at ≡ number) × (count ≡ count_on schemas proc) × (65536 < count)
 IsFaultAt schemas number proc (TooManyWords count) = ⊥
@@ -75,6 +75,14 @@ pub record IsLayoutOf (schemas : List Schema) (procs : List Proc) (layout : Layo
 -- whether a word is one of the procedure's
 abbrev pub has_word : ℕ → LaidProc → Bool
 has_word word laid = nat_le laid.first_word word && nat_lt word laid.next_word
+
+-- the number of the edge that a word of the procedure is on
+abbrev pub edge_with : LaidProc → ℕ → ℕ
+edge_with laid word = (word - laid.first_word) / laid.width
+
+-- the number of the word among those of its edge
+abbrev pub place_in_edge : LaidProc → ℕ → ℕ
+place_in_edge laid word = (word - laid.first_word) % laid.width
 
 -- the bit of a fact on the edge with a number among those of a procedure
 pub record IsBitOn (schemas : List Schema) (procs : List Proc) (proc edge : ℕ) (fact : GroundFact) (bit : ℕ) : Type 0 where

@@ -8,7 +8,7 @@ ghost use Rattle.rh_domain.specs.Binding.{domain_of};
 ghost use Rattle.rh_domain.specs.Bits.{full_word};
 ghost use Rattle.rh_domain.specs.Facts.{facts_over};
 ghost use Rattle.rh_domain.specs.First.{AreFirsts};
-ghost use Rattle.rh_domain.specs.Layout.{IsFaultAt, IsLaidProc, has_word};
+ghost use Rattle.rh_domain.specs.Layout.{IsFaultAt, IsLaidProc, edge_with, has_word, place_in_edge};
 
 use crate::domain::Domain;
 use crate::edges::edges_of;
@@ -46,7 +46,7 @@ pub struct LaidProc {
 pub enum LayoutFault {
     /// The first procedure with more than 65,536 facts, and how many it has.
     TooManyFacts { proc: u32, count: u128 },
-    /// There are more than 2,097,152 words. So many there are.
+    /// More than 2,097,152 words in all, and how many.
     TooManyWords(u64),
     NoMemory,
 }
@@ -80,7 +80,8 @@ fn small_domain(alloc: Global, proc: &Proc) -> Result<Domain, AllocError>
     Domain::of(alloc, proc)
 }
 
-/// The part of a layout on the procedure with this number, whose words begin with this one.
+/// The part of a layout on the procedure with this number, whose words begin with this one. A procedure has at most
+/// 2,049 edges of 1,024 words each.
 pub(crate) fn lay_out(
     alloc: Global,
     schemas: &[Schema],
@@ -132,7 +133,7 @@ impl LaidProc {
         requires from { self.now.first_word ≤ word }
         requires some { 0 < self.now.width }
         requires few { self.now.width ≤ 1024 }
-        ensures { result ≡ full_word self.now.facts ((word - self.now.first_word) % self.now.width) }
+        ensures { result ≡ full_word self.now.facts (place_in_edge self.now word) }
     {
         let within = (word - self.first_word) % self.width;
         ones(self.facts.saturating_sub(64 * within))
@@ -147,8 +148,8 @@ impl LaidProc {
         requires narrow { self.now.width ≤ 1024 }
         requires from { self.now.first_word ≤ bit / 64 }
         requires below { bit / 64 < self.now.next_word }
-        requires edge { (bit / 64 - self.now.first_word) / self.now.width < length self.now.edges }
-        ensures { (edge : Edge) → slice_get self.now.edges ((bit / 64 - self.now.first_word) / self.now.width) ≡ Some edge → result ≡ option_map (λ fact. record { proc = number; edge = edge; fact = fact }) (slice_get (facts_over self.now.domain schemas.now) (64 * ((bit / 64 - self.now.first_word) % self.now.width) + bit % 64)) }
+        requires edge { edge_with self.now (bit / 64) < length self.now.edges }
+        ensures { (edge : Edge) → slice_get self.now.edges (edge_with self.now (bit / 64)) ≡ Some edge → result ≡ option_map (λ fact. record { proc = number; edge = edge; fact = fact }) (slice_get (facts_over self.now.domain schemas.now) (64 * place_in_edge self.now (bit / 64) + bit % 64)) }
     {
         let word = (bit / 64) as u32 - self.first_word;
         let place = (bit % 64) as u32;

@@ -3,8 +3,8 @@ use Rattle.std.specs.Prelude.{slice_get}
 use Rattle.std.proofs.lemmas.Option.{slice_get_read}
 use Rattle.rh_domain.specs.declared.fact.GroundFact.{GroundFact}
 use Rattle.rh_domain.specs.Layout.{IsBitOn, IsLayoutOf}
-use Rattle.rh_domain.proofs.BitFacts.{asked, none_for_all, some_for_all}
-use Rattle.rh_domain.proofs.FactOn.{bit_found, bit_none, part_on}
+use Rattle.rh_domain.proofs.FoundFacts.{asked, none_for_all, some_for_all}
+use Rattle.rh_domain.proofs.FoundBits.{bit_found, bit_none, part_on}
 use Rattle.rh_domain.proofs.layout.Layout.bit_of.Goals as goal
 
 pub bit_of-requires : goal.bit_of-requires

@@ -1,9 +1,9 @@
-use Rattle.std.proofs.Common.{◌-◌, ◌/◌, get_or, ap, sym, ◌∙◌}
+use Rattle.std.proofs.Common.{◌/◌, get_or, ap, sym, ◌∙◌}
 use Rattle.std.proofs.lemmas.Option.{slice_get_within}
 use Rattle.rh_domain.specs.declared.fact.FactAt.{FactAt}
 use Rattle.rh_domain.specs.Bits.{IsBitOf}
-use Rattle.rh_domain.specs.Layout.{IsLayoutOf}
-use Rattle.rh_domain.proofs.BitFacts.{answers_none, answers_some, asked, none_for_all, none_past_all, some_for_all}
+use Rattle.rh_domain.specs.Layout.{IsLayoutOf, edge_with}
+use Rattle.rh_domain.proofs.FoundFacts.{answers_none, answers_some, asked, none_for_all, none_past_all, some_for_all}
 use Rattle.rh_domain.proofs.LaidWords.{found}
 use Rattle.rh_domain.proofs.layout.Layout.fact_of.Goals as goal
 
@@ -29,7 +29,7 @@ fact_of-requires c =
       narrow = at.narrow;
       from = at.from;
       below = at.below;
-      edge = slice_get_within laid.edges ((c.args.bit / 64 - laid.first_word) / laid.width) at.edge at.edge_at;
+      edge = slice_get_within laid.edges (edge_with laid (c.args.bit / 64)) at.edge at.edge_at;
     }
 
 pub returns-clause-found : goal.returns-clause-found

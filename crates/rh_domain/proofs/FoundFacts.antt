@@ -1,5 +1,5 @@
 -- The fact of a bit, as a layout has it.
-use Rattle.std.proofs.Common.{ℕ, ◌≡◌, ◌+◌, ◌-◌, ◌*◌, ◌/◌, ◌%◌, List, Option, Some, None, refl, ap, sym, ◌∙◌, subst, arith}
+use Rattle.std.proofs.Common.{ℕ, ◌≡◌, ◌+◌, ◌*◌, ◌/◌, ◌%◌, List, Option, Some, None, refl, ap, sym, ◌∙◌, subst, arith}
 use Rattle.std.specs.List.{position}
 use Rattle.std.specs.Option.{option_map}
 use Rattle.std.specs.Prelude.{IfNone, IfSome, slice_get}
@@ -14,7 +14,7 @@ use Rattle.rh_domain.specs.declared.layout.Layout.{Layout}
 use Rattle.rh_domain.specs.Bits.{IsBitOf}
 use Rattle.rh_domain.specs.Count.{IsSmall}
 use Rattle.rh_domain.specs.First.{AreFirsts}
-use Rattle.rh_domain.specs.Layout.{IsLaidProc, IsLayoutOf, has_word}
+use Rattle.rh_domain.specs.Layout.{IsLaidProc, IsLayoutOf, edge_with, has_word, place_in_edge}
 use Rattle.rh_domain.specs.Facts.{facts_of, facts_over}
 use Rattle.rh_domain.proofs.FactBits.{bit_at_place, none_at_place, none_past}
 use Rattle.rh_domain.proofs.LaidWords.{IsIn, not_found}
@@ -31,14 +31,14 @@ module _ {X : Type 0} (Fits : List Proc → Type 0) where
 
 module _ (schemas : List Schema) (procs : List Proc) (layout : Layout) (bit place : ℕ) (laid : LaidProc) (at : IsIn schemas procs layout (bit / 64) place laid) where
   abbrev number : ℕ
-  number = 64 * ((bit / 64 - laid.first_word) % laid.width) + bit % 64
+  number = 64 * place_in_edge laid (bit / 64) + bit % 64
 
   abbrev as_fact : GroundFact → FactAt
   as_fact fact = record { proc = place; edge = at.edge; fact = fact }
 
   -- the answer is the fact with this number, on this edge
   abbrev pub AnswersFact : Option FactAt → Type 0
-  AnswersFact result = (edge : Edge) → slice_get laid.edges ((bit / 64 - laid.first_word) / laid.width) ≡ Some edge
+  AnswersFact result = (edge : Edge) → slice_get laid.edges (edge_with laid (bit / 64)) ≡ Some edge
       → result ≡ option_map (λ fact. record { proc = place; edge = edge; fact = fact }) (slice_get (facts_over laid.domain schemas) number)
 
   answer : (result : Option FactAt) → AnswersFact result → result ≡ option_map as_fact (slice_get (facts_of schemas at.proc) number)
@@ -46,11 +46,11 @@ module _ (schemas : List Schema) (procs : List Proc) (layout : Layout) (bit plac
 
   some_by : (o : Option GroundFact) → slice_get (facts_of schemas at.proc) number ≡ o → IfSome (option_map as_fact o) (λ fact. IsBitOf schemas procs bit fact)
   some_by None read = tt
-  some_by (Some fact) read = bit_at_place schemas procs bit place at.proc ((bit / 64 - laid.first_word) / laid.width) ((bit / 64 - laid.first_word) % laid.width) at.edge fact at.is_at read
+  some_by (Some fact) read = bit_at_place schemas procs bit place at.proc (edge_with laid (bit / 64)) (place_in_edge laid (bit / 64)) at.edge fact at.is_at read
 
   none_by : (o : Option GroundFact) → slice_get (facts_of schemas at.proc) number ≡ o → IfNone (option_map as_fact o) ((fact : FactAt) → IsBitOf schemas procs bit fact → ⊥)
   none_by (Some fact) read = tt
-  none_by None read = none_at_place schemas procs bit place at.proc ((bit / 64 - laid.first_word) / laid.width) ((bit / 64 - laid.first_word) % laid.width) at.edge at.is_at read
+  none_by None read = none_at_place schemas procs bit place at.proc (edge_with laid (bit / 64)) (place_in_edge laid (bit / 64)) at.edge at.is_at read
 
   pub answers_some : (result : Option FactAt) → AnswersFact result → IfSome result (λ fact. IsBitOf schemas procs bit fact)
   answers_some result is = subst (λ (r : Option FactAt). IfSome r (λ fact. IsBitOf schemas procs bit fact)) (sym (answer result is)) (some_by (slice_get (facts_of schemas at.proc) number) refl)
