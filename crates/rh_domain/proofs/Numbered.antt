@@ -9,7 +9,7 @@ use Rattle.std.proofs.lemmas.Option.{slice_get-map, slice_get-get_or, slice_get_
 use Rattle.rh_rule.specs.declared.rule.Arg.{Arg}
 use Rattle.rh_rule.specs.declared.rule.Arg.TheVariants.{Var, Const}
 
-range_at : (n k : ℕ) → k < n → slice_get (range_with_len 0 n) k ≡ Some k
+pub range_at : (n k : ℕ) → k < n → slice_get (range_with_len 0 n) k ≡ Some k
 range_at n k below =
     slice_get-get_or (range_with_len 0 n) k 0 (let size = length-range_with_len 0 n in omega (arith, below, size))
     ∙ ap Some (let same : 0 + k ≡ k = omega arith in get_or-range_with_len 0 n k 0 below ∙ same)

@@ -1,5 +1,5 @@
 -- What stands at a number of a list that is put together from pieces.
-use Rattle.std.proofs.Common.{ℕ, zero, suc, ◌≡◌, ◌+◌, ◌*◌, ◌≤◌, List, [], ◌∷◌, ◌++◌, length, map, take, Option, Some, None, ◌⊎◌, inl, inr, refl, ap, sym, ◌∙◌, subst, arith}
+use Rattle.std.proofs.Common.{ℕ, zero, suc, ◌≡◌, ◌+◌, ◌*◌, ◌<◌, ◌≤◌, List, [], ◌∷◌, ◌++◌, length, map, take, Option, Some, None, ◌⊎◌, inl, inr, refl, ap, sym, ◌∙◌, subst, arith}
 use Rattle.std.specs.List.{flat_map}
 use Rattle.std.specs.Option.{option_map}
 use Rattle.std.specs.Prelude.{slice_get}
@@ -61,6 +61,24 @@ module _ {X Y : Type 0} (f : X → List Y) where
         let size : length (f z ++ flat_map f (take rest.place xs)) ≡ length (f z) + start_of xs rest.place = length-append (f z) (flat_map f (take rest.place xs)) in
         record { place = suc rest.place; within = rest.within; item = rest.item; item_at = rest.item_at; read = rest.read; number_is = omega (arith, is, inner, size) }
   ]
+
+  -- a number lies in the piece of one item, at one place
+  pub same_part : (xs : List X) (i j k l : ℕ) (x y : X) → slice_get xs i ≡ Some x → slice_get xs k ≡ Some y → j < length (f x) → l < length (f y) → start_of xs i + j ≡ start_of xs k + l → (i ≡ k) × (j ≡ l)
+  same_part [] i j k l x y at other below within same = absurd cc
+  same_part (z ∷ xs) zero j zero l x y at other below within same = (refl, omega (arith, same))
+  same_part (z ∷ xs) zero j (suc k) l x y at other below within same =
+      let size : length (f z ++ flat_map f (take k xs)) ≡ length (f z) + start_of xs k = length-append (f z) (flat_map f (take k xs)) in
+      let less : j < length (f z) = subst (λ w. j < length (f w)) (sym (same_Some z x at)) below in
+      absurd (omega (arith, size, less, same))
+  same_part (z ∷ xs) (suc i) j zero l x y at other below within same =
+      let size : length (f z ++ flat_map f (take i xs)) ≡ length (f z) + start_of xs i = length-append (f z) (flat_map f (take i xs)) in
+      let less : l < length (f z) = subst (λ w. l < length (f w)) (sym (same_Some z y other)) within in
+      absurd (omega (arith, size, less, same))
+  same_part (z ∷ xs) (suc i) j (suc k) l x y at other below within same =
+      let one : length (f z ++ flat_map f (take i xs)) ≡ length (f z) + start_of xs i = length-append (f z) (flat_map f (take i xs)) in
+      let two : length (f z ++ flat_map f (take k xs)) ≡ length (f z) + start_of xs k = length-append (f z) (flat_map f (take k xs)) in
+      let rest = same_part xs i j k l x y at other below within (omega (arith, one, two, same)) in
+      (ap suc rest.0, rest.1)
 
   -- pieces of one size
   pub even_start : (xs : List X) (n i : ℕ) → ((x : X) → length (f x) ≡ n) → i ≤ length xs → start_of xs i ≡ i * n
