@@ -4,13 +4,3 @@ pub mod Pieces
 pub mod Joined
 pub mod Bounds
 pub mod FactNumbers
-pub mod Rising
-pub mod FlowEdges
-pub mod FactsApart
-pub mod EdgeWords
-pub mod FactBits
-pub mod Small
-pub mod LaidOut
-pub mod LaidWords
-pub mod FoundFacts
-pub mod FoundBits

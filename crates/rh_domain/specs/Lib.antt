@@ -3,5 +3,3 @@ pub mod Binding
 pub mod Facts
 pub mod Count
 pub mod First
-pub mod Bits
-pub mod Layout

@@ -1,0 +1,10 @@
+pub mod Rising
+pub mod FlowEdges
+pub mod FactsApart
+pub mod EdgeWords
+pub mod FactBits
+pub mod Small
+pub mod LaidOut
+pub mod LaidWords
+pub mod FoundFacts
+pub mod FoundBits
