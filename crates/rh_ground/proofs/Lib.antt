@@ -2,5 +2,8 @@ pub mod Matched
 pub mod Shapes
 pub mod Members
 pub mod Fitting
+pub mod FindLists
 pub mod Searching
+pub mod SameArgs
+pub mod Finding
 pub mod Greatest

@@ -3,3 +3,4 @@ pub mod Template
 pub mod Instance
 pub mod Rows
 pub mod Search
+pub mod Find

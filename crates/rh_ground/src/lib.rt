@@ -1,8 +1,12 @@
 //! Ground instances of rules at the statements of a program.
 #![tactic(auto)]
 
+mod find;
 mod matching;
 mod search;
+mod wanted;
 
+pub use find::first_binding;
 pub use matching::template_under;
 pub use search::first_match;
+pub use wanted::Wanted;
