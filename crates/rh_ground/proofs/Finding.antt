@@ -9,6 +9,7 @@ use Rattle.rh_rule.specs.declared.schema.Param.{Param}
 use Rattle.rh_domain.specs.declared.domain.Domain.{Domain}
 use Rattle.rh_domain.specs.Binding.{Binding, arg_eq, args_in, bindings_in, bound}
 use Rattle.rh_ground.specs.Find.{FindsArgs, args_to_try, between}
+use Rattle.rh_ground.specs.Fixed.{Fixes}
 use Rattle.rh_ground.proofs.SameArgs.{arg_eq-same, arg_eq-true}
 use Rattle.rh_ground.proofs.FindLists.{append_nothing, append_one, find_append, find_map, find_none, find_same}
 
@@ -100,7 +101,7 @@ module _ (domain : Domain) (params : List Param) (param : Param) (others : List 
   all_args = ap (λ ps. find (after accepts old) (bindings_in domain ps)) params_are
 
   -- at first all arguments are to be tried, or the fixed one alone
-  pub at_first : (fixed : Option Arg) (meta first end : ℕ) → meta ≡ length old → IfSome fixed (λ arg. (binding : Binding) → accepts binding ≡ true → bound binding meta ≡ arg)
+  pub at_first : (fixed : Option Arg) (meta first end : ℕ) → meta ≡ length old → IfSome fixed (Fixes accepts meta)
       → between first end (args_in domain param.kind) ≡ args_to_try fixed (args_in domain param.kind) → all ≡ first_from domain param others accepts old first end
   at_first None meta first end at known tried = all_args ∙ ap (first_among (after accepts old) (bindings_in domain others)) (sym tried)
   at_first (Some arg) meta first end at known tried =
@@ -124,8 +125,8 @@ module _ (domain : Domain) (params : List Param) (param : Param) (others : List 
         (λ rest. sym (ap (λ b. accepts (b ++ rest)) pushed_is ∙ ap accepts (append_one old arg rest)))
 
     -- nothing was found with the argument
-    pub tried : (new : Binding) → FindsArgs domain others accepts pushed false new → first_from domain param others accepts old k end ≡ first_from domain param others accepts old (k + 1) end
-    tried new finds = from_next ∙ ap (λ o. option_or (option_map (λ rest. arg ∷ rest) o) (first_from domain param others accepts old (k + 1) end)) (one_behind ∙ finds.1)
+    pub tried : (new : Binding) → FindsArgs domain others accepts pushed false new → all ≡ first_from domain param others accepts old k end → all ≡ first_from domain param others accepts old (k + 1) end
+    tried new finds so_far = so_far ∙ from_next ∙ ap (λ o. option_or (option_map (λ rest. arg ∷ rest) o) (first_from domain param others accepts old (k + 1) end)) (one_behind ∙ finds.1)
 
     -- something was
     pub found_with : (new : Binding) → FindsArgs domain others accepts pushed true new → all ≡ first_from domain param others accepts old k end → FindsArgs domain params accepts old true new

@@ -5,5 +5,6 @@ pub mod Fitting
 pub mod FindLists
 pub mod Searching
 pub mod SameArgs
+pub mod SameFacts
 pub mod Finding
 pub mod Greatest

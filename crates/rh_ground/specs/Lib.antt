@@ -4,3 +4,6 @@ pub mod Instance
 pub mod Rows
 pub mod Search
 pub mod Find
+pub mod Fixed
+pub mod SameFact
+pub mod InDomain

@@ -2,11 +2,13 @@
 #![tactic(auto)]
 
 mod find;
+mod fixed;
 mod matching;
 mod search;
 mod wanted;
 
 pub use find::first_binding;
+pub use fixed::{fixed_by_fact, fixed_by_pattern, fixed_by_rule};
 pub use matching::template_under;
 pub use search::first_match;
 pub use wanted::Wanted;

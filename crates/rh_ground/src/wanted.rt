@@ -1,6 +1,7 @@
 //! What a search for bindings looks for.
-ghost use Rattle.std.specs.Prelude.{◌≡◌, Bool, true, IfSome};
-ghost use Rattle.rh_domain.specs.Binding.{Binding, bound};
+ghost use Rattle.std.specs.Prelude.{◌≡◌, Bool, IfSome};
+ghost use Rattle.rh_domain.specs.Binding.{Binding};
+ghost use Rattle.rh_ground.specs.Fixed.{Fixes};
 
 use rh_rule::Arg;
 
@@ -15,5 +16,5 @@ pub trait Wanted {
 
     /// What a metavariable is bound to in every wanted binding, where that is known.
     fn fixed(&self, meta: u32) -> Option<Arg>
-        ensures { IfSome result (λ arg. (binding : Binding) → accepts self.now binding ≡ true → bound binding meta ≡ arg) };
+        ensures { IfSome result (Fixes (accepts self.now) meta) };
 }

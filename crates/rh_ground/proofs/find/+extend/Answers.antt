@@ -22,7 +22,6 @@ loop-number-preserved g t c =
     let more = c.push_arg.ensures in
     let pushed = more.2 ∙ ap (λ args. args ++ more.0 ∷ []) c.loop-number.invariant.0 in (
       cut_back c.extend.new.args c.truncate.new.self c.args.args.now more.0 c.len-meta.result c.truncate.ensures (c.if-extend.ensures.0 ∙ pushed) c.len-meta.ensures,
-      c.loop-number.invariant.1
-          ∙ tried c.args.domain.now c.args.params.now c.in-Some.param.now c.in-Some.others.now c.in-Some.ensures.cases.0 (g.W.Wanted.accepts c.args.wanted.now) c.args.args.now
-          c.loop-number.number c.numbers_to_try-first.result.1 c.loop-number-test.true more.0 more.1 c.push_arg.new.args pushed c.extend.new.args c.if-extend.ensures,
+      tried c.args.domain.now c.args.params.now c.in-Some.param.now c.in-Some.others.now c.in-Some.ensures.cases.0 (g.W.Wanted.accepts c.args.wanted.now) c.args.args.now
+          c.loop-number.number c.numbers_to_try-first.result.1 c.loop-number-test.true more.0 more.1 c.push_arg.new.args pushed c.extend.new.args c.if-extend.ensures c.loop-number.invariant.1,
     )
