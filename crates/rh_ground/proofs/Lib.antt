@@ -2,5 +2,9 @@ pub mod Matched
 pub mod Shapes
 pub mod Members
 pub mod Fitting
+pub mod FindLists
 pub mod Searching
+pub mod SameArgs
+pub mod SameFacts
+pub mod Finding
 pub mod Greatest

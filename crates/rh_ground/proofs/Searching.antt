@@ -1,5 +1,5 @@
 -- Looking for the first binding, one argument after another.
-use Rattle.std.proofs.Common.{ℕ, suc, ◌≡◌, ◌+◌, ◌-◌, ◌<◌, Bool, true, false, cond, List, [], ◌∷◌, ◌++◌, map, length, take, Option, Some, None, refl, ap, sym, ◌∙◌, subst, arith}
+use Rattle.std.proofs.Common.{ℕ, suc, ◌≡◌, ◌+◌, ◌-◌, ◌<◌, Bool, true, false, cond, List, [], ◌∷◌, ◌++◌, map, length, Option, Some, None, refl, ap, sym, ◌∙◌, subst, arith}
 use Rattle.std.specs.List.{find, flat_map, range_with_len}
 use Rattle.std.specs.Option.{option_map, option_or}
 use Rattle.std.proofs.lemmas.Bool.{and_parts}
@@ -19,34 +19,7 @@ use Rattle.rh_rule.specs.declared.schema.Param.{Param}
 use Rattle.rh_domain.specs.Binding.{Binding, args_of, bindings, bound}
 use Rattle.rh_ground.specs.Match.{is_operand, is_variable, matches}
 use Rattle.rh_ground.specs.Search.{AreVars, Finds}
-
-pub find_append : {X : Type 0} (test : X → Bool) (xs ys : List X) → find test (xs ++ ys) ≡ option_or (find test xs) (find test ys)
-find_append test [] ys = refl
-find_append {X} test (x ∷ xs) ys =
-    elim (test x) as (λ b. cond b (Some x) (find test (xs ++ ys)) ≡ option_or (cond b (Some x) (find test xs)) (find test ys))
-    [ true ↦ refl | false ↦ find_append test xs ys ]
-
-pub find_map : {X Y : Type 0} (test : Y → Bool) (f : X → Y) (xs : List X) → find test (map f xs) ≡ option_map f (find (λ x. test (f x)) xs)
-find_map test f [] = refl
-find_map {X} {Y} test f (x ∷ xs) =
-    elim (test (f x)) as (λ b. cond b (Some (f x)) (find test (map f xs)) ≡ option_map f (cond b (Some x) (find (λ y. test (f y)) xs)))
-    [ true ↦ refl | false ↦ find_map test f xs ]
-
-pub find_same : {X : Type 0} (test other : X → Bool) (xs : List X) → ((x : X) → test x ≡ other x) → find test xs ≡ find other xs
-find_same test other [] same = refl
-find_same {X} test other (x ∷ xs) same = ap (λ b. cond b (Some x) (find test xs)) (same x) ∙ ap (cond (other x) (Some x)) (find_same test other xs same)
-
-pub find_none : {X : Type 0} (test : X → Bool) (xs : List X) → ((x : X) → test x ≡ false) → find test xs ≡ None
-find_none test [] fails = refl
-find_none {X} test (x ∷ xs) fails = ap (λ b. cond b (Some x) (find test xs)) (fails x) ∙ find_none test xs fails
-
-append_one : {X : Type 0} (xs : List X) (x : X) (ys : List X) → (xs ++ x ∷ []) ++ ys ≡ xs ++ x ∷ ys
-append_one [] x ys = refl
-append_one (z ∷ xs) x ys = ap (λ r. z ∷ r) (append_one xs x ys)
-
-append_nothing : {X : Type 0} (xs : List X) → xs ++ [] ≡ xs
-append_nothing [] = refl
-append_nothing (x ∷ xs) = ap (λ r. x ∷ r) (append_nothing xs)
+pub use Rattle.rh_ground.proofs.FindLists.{append_nothing, append_one, cut_back, find_append, find_map, find_none, find_same, nothing_left}
 
 -- the argument after those that are bound
 bound_behind : (old : Binding) (arg : Arg) (rest : Binding) → bound (old ++ arg ∷ rest) (length old) ≡ arg
@@ -152,19 +125,6 @@ computation_matched binding pattern stmt to op left right x sign a b at is m =
     let second = and_parts (op_eq op sign) _ first.1 in
     let third = and_parts (is_operand binding left a) (is_operand binding right b) second.1 in
     (first.0, third.0, third.1)
-
-take_before : {X : Type 0} (xs ys : List X) → take (length xs) (xs ++ ys) ≡ xs
-take_before [] ys = refl
-take_before (x ∷ xs) ys = ap (λ r. x ∷ r) (take_before xs ys)
-
--- what was pushed is gone again
-pub cut_back : {X : Type 0} (before after old : List X) (x : X) (size : ℕ) → after ≡ take size before → before ≡ old ++ x ∷ [] → size ≡ length old → after ≡ old
-cut_back before after old x size is before_is size_is =
-    is ∙ ap (λ n. take n before) size_is ∙ ap (take (length old)) before_is ∙ take_before old (x ∷ [])
-
-pub nothing_left : {X : Type 0} (xs : List X) → length xs ≡ 0 → xs ≡ []
-nothing_left [] size = refl
-nothing_left (x ∷ xs) size = absurd (omega (arith, size))
 
 -- no metavariable is left
 pub finds_at_end : (proc : Proc) (params : List Param) (pattern : Form) (stmt : Stmt) (old : Binding) (found : Bool) → params ≡ [] → found ≡ matches old pattern stmt → Finds proc params pattern stmt old found old

@@ -3,3 +3,7 @@ pub mod Template
 pub mod Instance
 pub mod Rows
 pub mod Search
+pub mod Find
+pub mod Fixed
+pub mod SameFact
+pub mod InDomain

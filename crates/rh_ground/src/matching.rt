@@ -6,7 +6,7 @@ use rh_domain::{base_under, bound, variable_under};
 use rh_il::{Base, Stmt};
 use rh_rule::{Arg, Form, RuleBase};
 
-fn is_variable(binding: &[Arg], meta: u32, variable: u32) -> bool
+pub(crate) fn is_variable(binding: &[Arg], meta: u32, variable: u32) -> bool
     ensures { result ≡ is_variable binding.now meta variable }
 {
     bound(binding, meta) == Arg::Var(variable)
