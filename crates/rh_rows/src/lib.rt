@@ -1,0 +1,9 @@
+//! The rows of a program's instances, over the bits of facts.
+#![tactic(auto)]
+
+ghost use Rattle.rh_rows.specs.Laws.{BitsAreComputed};
+
+/// The bit of a fact is computed from the numbers of its edge, its schema and its arguments.
+pub fn bit_is()
+    ensures { BitsAreComputed }
+{}
