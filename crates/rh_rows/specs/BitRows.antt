@@ -1,5 +1,5 @@
 -- The rows of a program's instances, over bits.
-use Rattle.std.specs.Prelude.{ℕ, ◌+◌, ◌*◌, List, [], ◌∷◌, ◌++◌, length, map, take, slice_get, if◌then◌else◌}
+use Rattle.std.specs.Prelude.{ℕ, ◌≡◌, ◌+◌, ◌*◌, List, [], ◌∷◌, ◌++◌, length, map, take, slice_get, if◌then◌else◌}
 use Rattle.std.specs.List.{flat_map, enumerate_from, position_or_len, range_with_len}
 use Rattle.std.specs.Option.{option_map_or}
 use Rattle.std.specs.Ordering.{int_eq}
@@ -28,7 +28,7 @@ use Rattle.rh_domain.specs.Binding.{Binding, bindings, domain_of}
 use Rattle.rh_domain.specs.Count.{binding_count, fact_count}
 use Rattle.rh_layout.specs.Bits.{count_on, width_of, word_count}
 use Rattle.rh_ground.specs.Instance.{fact_under, is_instance}
-use Rattle.rh_ground.specs.Rows.{premises_at}
+use Rattle.rh_ground.specs.Rows.{IsRow, premises_at}
 use Rattle.rh_system.specs.declared.system.Row.{Row}
 
 -- ---- the bit of a fact on an edge
@@ -75,15 +75,17 @@ bit_of schemas procs fact = option_map_or (bit_in schemas procs fact) (slice_get
 abbrev pub nodes_of : Proc → List Node
 nodes_of proc = Entry ∷ map At (range_with_len 0 (length proc.body))
 
--- what a rule that concludes a fact gives under a binding, where it is an instance at the node
+-- the row of a rule that concludes a fact on an edge that leaves the node
+abbrev pub row_under : List Schema → List Proc → ℕ → Proc → Node → Rule → FactUse → Slot → Binding → Row
+row_under schemas procs place proc node rule fact slot binding = record {
+  bit = bit_of schemas procs (record { proc = place; edge = record { node = node; slot = slot }; fact = fact_under binding fact });
+  premises = map (bit_of schemas procs) (premises_at place proc rule binding node);
+}
+
+-- there is one where the rule is about the node under the binding
 abbrev pub rows_under : List Schema → List Proc → ℕ → Proc → Node → Rule → FactUse → Slot → Binding → List Row
 rows_under schemas procs place proc node rule fact slot binding =
-    if is_instance proc rule binding node
-    then record {
-      bit = bit_of schemas procs (record { proc = place; edge = record { node = node; slot = slot }; fact = fact_under binding fact });
-      premises = map (bit_of schemas procs) (premises_at place proc rule binding node);
-    } ∷ []
-    else []
+    if is_instance proc rule binding node then row_under schemas procs place proc node rule fact slot binding ∷ [] else []
 
 -- the rows of one rule at a node, if it is admitted and concludes a fact
 abbrev pub rows_by : List Schema → List Proc → ℕ → Proc → Node → Rule → Ruling → Conclusion → List Row
@@ -105,3 +107,11 @@ rows_in schemas procs rules rulings place proc = flat_map (λ node. rows_at sche
 -- all rows, procedure by procedure
 abbrev pub rows_of : Rules → List Ruling → List Proc → List Row
 rows_of file rulings procs = flat_map (λ at. rows_in file.schemas procs file.rules rulings at.0 at.1) (enumerate_from 0 procs)
+
+-- the row is that of an instance, with the bits of its facts
+pub record IsRowOf (file : Rules) (rulings : List Ruling) (procs : List Proc) (row : Row) : Type 0 where
+  pub conclusion : FactAt
+  pub premises : List FactAt
+  pub is : IsRow file.rules rulings procs conclusion premises
+  pub bit_is : row.bit ≡ bit_of file.schemas procs conclusion
+  pub premises_are : row.premises ≡ map (bit_of file.schemas procs) premises
