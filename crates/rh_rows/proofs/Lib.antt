@@ -1,0 +1,3 @@
+pub mod BitNumbers
+pub mod Items
+pub mod RowItems

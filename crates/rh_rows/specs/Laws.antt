@@ -1,0 +1,18 @@
+-- What holds of bits and rows.
+use Rattle.std.specs.Prelude.{ℕ, ◌≡◌, ◌↔◌, Contains, List}
+use Rattle.rh_il.specs.declared.program.Proc.{Proc}
+use Rattle.rh_rule.specs.declared.rule.Ruling.{Ruling}
+use Rattle.rh_rule.specs.declared.schema.Schema.{Schema}
+use Rattle.rh_domain.specs.declared.fact.FactAt.{FactAt}
+use Rattle.rh_layout.specs.Bits.{IsBitOf}
+use Rattle.rh_rule.specs.RuleFiles.{Rules}
+use Rattle.rh_system.specs.declared.system.Row.{Row}
+use Rattle.rh_rows.specs.BitRows.{IsRowOf, bit_of, rows_of}
+
+-- the bit that a layout gives a fact is the one that is computed from the fact's numbers
+abbrev pub BitsAreComputed : Type 0
+BitsAreComputed = (schemas : List Schema) (procs : List Proc) (bit : ℕ) (fact : FactAt) → IsBitOf schemas procs bit fact → bit ≡ bit_of schemas procs fact
+
+-- the rows are those of the instances, and no others
+abbrev pub RowsAreInstances : Type 0
+RowsAreInstances = (file : Rules) (rulings : List Ruling) (procs : List Proc) (row : Row) → Contains (rows_of file rulings procs) row ↔ IsRowOf file rulings procs row

@@ -1,0 +1,14 @@
+//! The rows of a program's instances, over the bits of facts.
+#![tactic(auto)]
+
+ghost use Rattle.rh_rows.specs.Laws.{BitsAreComputed, RowsAreInstances};
+
+/// The bit of a fact is computed from the numbers of its edge, its schema and its arguments.
+pub fn bit_is()
+    ensures { BitsAreComputed }
+{}
+
+/// The rows are those of the instances of proved propagation rules, with the bits of their facts.
+pub fn row_items()
+    ensures { RowsAreInstances }
+{}
