@@ -1,8 +1,9 @@
 -- Items that stand in lists made from lists.
-use Rattle.std.proofs.Common.{ℕ, zero, suc, ◌≡◌, ◌+◌, ◌<◌, Bool, true, false, List, [], ◌∷◌, ◌++◌, map, length, Some, inl, inr, refl, ap, sym, subst, arith}
-use Rattle.std.specs.List.{Contains, flat_map, range_with_len}
+use Rattle.std.proofs.Common.{ℕ, zero, suc, ◌≡◌, ◌+◌, ◌<◌, Bool, true, false, cond, List, [], ◌∷◌, ◌++◌, map, length, Some, inl, inr, refl, ap, sym, subst, arith}
+use Rattle.std.specs.List.{All, Contains, filter, flat_map, list_all, range_with_len}
 use Rattle.std.specs.Prelude.{slice_get, slice_index_or, if◌then◌else◌}
 use Rattle.std.proofs.lemmas.Option.{same_Some}
+use Rattle.rh_list.proofs.AtPlace.{passes_at}
 use Rattle.rh_ground.proofs.Members.{IsItem}
 
 indexed : {X : Type 0} (xs : List X) (x : X) (k : ℕ) → k < length xs → slice_index_or xs k x ≡ x → IsItem x xs
@@ -64,3 +65,21 @@ item_of_if false x y there = absurd there
 pub in_if : {X : Type 0} (test : Bool) (x : X) → test ≡ true → IsItem x (if test then x ∷ [] else [])
 in_if true x holds = inl refl
 in_if false x holds = absurd cc
+
+-- what all items pass, each passes
+pub passes_item : {X : Type 0} (test : X → Bool) (xs : List X) (x : X) → list_all test xs ≡ true → IsItem x xs → test x ≡ true
+passes_item test xs x all there = let at = place_of xs x there in passes_at test xs at.0 x all at.1
+
+pub all_of_items : {X : Type 0} (P : X → Type 0) (xs : List X) → ((x : X) → IsItem x xs → P x) → All P xs
+all_of_items P [] each k d below = absurd (omega (arith, below))
+all_of_items P (x ∷ xs) each zero d below = each x (inl refl)
+all_of_items P (x ∷ xs) each (suc k) d below = all_of_items P xs (λ y there. each y (inr there)) k d (omega (arith, below))
+
+-- what is left of a list stood in it
+pub item_of_filter : {X : Type 0} (test : X → Bool) (x : X) (xs : List X) → IsItem x (filter test xs) → IsItem x xs
+item_of_filter test x [] there = absurd there
+item_of_filter {X} test x (y ∷ ys) there =
+    elim (test y) as (λ b. IsItem x (cond b (y ∷ filter test ys) (filter test ys)) → IsItem x (y ∷ ys)) [
+      | true ↦ λ item. elim item as (λ _. IsItem x (y ∷ ys)) [ inl same ↦ inl same | inr later ↦ inr (item_of_filter test x ys later) ]
+      | false ↦ λ item. inr (item_of_filter test x ys item)
+    ] there
