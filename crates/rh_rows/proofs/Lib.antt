@@ -4,3 +4,5 @@ pub mod RowItems
 pub mod FactStands
 pub mod EdgeStands
 pub mod Covered
+pub mod ProgramFacts
+pub mod GreatestFacts

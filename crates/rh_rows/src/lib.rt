@@ -1,7 +1,7 @@
 //! The rows of a program's instances, over the bits of facts.
 #![tactic(auto)]
 
-ghost use Rattle.rh_rows.specs.Laws.{BitsAreComputed, RowsAreCovered, RowsAreInstances, RowsHaveBits};
+ghost use Rattle.rh_rows.specs.Laws.{BitsAreComputed, GreatestIsKnown, RowsAreCovered, RowsAreInstances, RowsHaveBits};
 
 /// The bit of a fact is computed from the numbers of its edge, its schema and its arguments.
 pub fn bit_is()
@@ -21,4 +21,10 @@ pub fn rows_have_bits()
 /// Each row supports a bit of the full words.
 pub fn rows_covered()
     ensures { RowsAreCovered }
+{}
+
+/// Where words hold the greatest set of bits that the rows support, the facts of these bits are the
+/// greatest set of facts.
+pub fn greatest_is_known()
+    ensures { GreatestIsKnown }
 {}
