@@ -1,8 +1,10 @@
 -- Items that stand in lists made from lists.
-use Rattle.std.proofs.Common.{ℕ, zero, suc, ◌≡◌, ◌+◌, ◌<◌, Bool, true, false, List, [], ◌∷◌, ◌++◌, map, length, Some, inl, inr, refl, ap, sym, subst, arith}
-use Rattle.std.specs.List.{Contains, flat_map, range_with_len}
-use Rattle.std.specs.Prelude.{slice_get, slice_index_or, if◌then◌else◌}
+use Rattle.std.proofs.Common.{ℕ, zero, suc, ◌≡◌, ◌+◌, ◌<◌, Bool, true, false, cond, List, [], ◌∷◌, ◌++◌, map, length, Some, inl, inr, refl, ap, sym, ◌∙◌, subst, arith}
+use Rattle.std.specs.List.{All, Contains, filter, flat_map, list_all, list_any, range_with_len}
+use Rattle.std.specs.Prelude.{◌||◌, slice_get, slice_index_or, if◌then◌else◌}
+use Rattle.std.proofs.lemmas.Bool.{and_from, false≢true}
 use Rattle.std.proofs.lemmas.Option.{same_Some}
+use Rattle.rh_list.proofs.AtPlace.{passes_at}
 use Rattle.rh_ground.proofs.Members.{IsItem}
 
 indexed : {X : Type 0} (xs : List X) (x : X) (k : ℕ) → k < length xs → slice_index_or xs k x ≡ x → IsItem x xs
@@ -64,3 +66,46 @@ item_of_if false x y there = absurd there
 pub in_if : {X : Type 0} (test : Bool) (x : X) → test ≡ true → IsItem x (if test then x ∷ [] else [])
 in_if true x holds = inl refl
 in_if false x holds = absurd cc
+
+-- what all items pass, each passes
+pub passes_item : {X : Type 0} (test : X → Bool) (xs : List X) (x : X) → list_all test xs ≡ true → IsItem x xs → test x ≡ true
+passes_item test xs x all there = let at = place_of xs x there in passes_at test xs at.0 x all at.1
+
+pub all_of_items : {X : Type 0} (P : X → Type 0) (xs : List X) → ((x : X) → IsItem x xs → P x) → All P xs
+all_of_items P [] each k d below = absurd (omega (arith, below))
+all_of_items P (x ∷ xs) each zero d below = each x (inl refl)
+all_of_items P (x ∷ xs) each (suc k) d below = all_of_items P xs (λ y there. each y (inr there)) k d (omega (arith, below))
+
+-- what is left of a list stood in it
+pub item_of_filter : {X : Type 0} (test : X → Bool) (x : X) (xs : List X) → IsItem x (filter test xs) → IsItem x xs
+item_of_filter test x [] there = absurd there
+item_of_filter {X} test x (y ∷ ys) there =
+    elim (test y) as (λ b. IsItem x (cond b (y ∷ filter test ys) (filter test ys)) → IsItem x (y ∷ ys)) [
+      | true ↦ λ item. elim item as (λ _. IsItem x (y ∷ ys)) [ inl same ↦ inl same | inr later ↦ inr (item_of_filter test x ys later) ]
+      | false ↦ λ item. inr (item_of_filter test x ys item)
+    ] there
+
+-- and what each has by its place, an item has
+pub item_has : {X : Type 0} (P : X → Type 0) (xs : List X) (x : X) → All P xs → IsItem x xs → P x
+item_has P [] x all there = absurd there
+item_has P (y ∷ ys) x all (inl same) = subst P (sym same) (all 0 y (omega arith))
+item_has P (y ∷ ys) x all (inr there) = item_has P ys x (λ k d below. all (suc k) d (omega (arith, below))) there
+
+pub each_passes : {X : Type 0} (test : X → Bool) (xs : List X) → ((x : X) → IsItem x xs → test x ≡ true) → list_all test xs ≡ true
+each_passes test [] each = refl
+each_passes test (x ∷ xs) each = and_from (test x) (list_all test xs) (each x (inl refl)) (each_passes test xs (λ y there. each y (inr there)))
+
+-- some item passes
+pub some_item : {X : Type 0} (test : X → Bool) (xs : List X) → list_any test xs ≡ true → (x : X) × IsItem x xs × (test x ≡ true)
+some_item test [] any = absurd (false≢true any)
+some_item {X} test (x ∷ xs) any =
+    elim (test x) as (λ b. test x ≡ b → (b || list_any test xs) ≡ true → (y : X) × IsItem y (x ∷ xs) × (test y ≡ true)) [
+      | true ↦ λ is told. (x, inl refl, is)
+      | false ↦ λ is told. let rest = some_item test xs told in (rest.0, inr rest.1, rest.2)
+    ] refl any
+
+pub some_passes : {X : Type 0} (test : X → Bool) (xs : List X) (x : X) → IsItem x xs → test x ≡ true → list_any test xs ≡ true
+some_passes test [] x there is = absurd there
+some_passes test (y ∷ ys) x (inl same) is = ap (λ b. b || list_any test ys) (ap test (sym same) ∙ is)
+some_passes test (y ∷ ys) x (inr there) is =
+    let rest = some_passes test ys x there is in elim (test y) as (λ b. (b || list_any test ys) ≡ true) [ true ↦ refl | false ↦ rest ]

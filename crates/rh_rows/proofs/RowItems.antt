@@ -126,7 +126,7 @@ module _ (file : Rules) (rulings : List Ruling) (procs : List Proc) where
   abbrev rows_of_proc : ℕ × Proc → List Row
   rows_of_proc at = rows_in file.schemas procs file.rules rulings at.0 at.1
 
-  out_of_rows : (row : Row) → IsItem row (rows_of file rulings procs) → IsRowOf file rulings procs row
+  pub out_of_rows : (row : Row) → IsItem row (rows_of file rulings procs) → IsRowOf file rulings procs row
   out_of_rows row there =
       let found = item_of_flat_map rows_of_proc row (enumerate_from 0 procs) there in
       let place = found.0.0 in
@@ -160,7 +160,7 @@ module _ (file : Rules) (rulings : List Ruling) (procs : List Proc) where
         premises_are = ap (λ (r : Row). r.premises) from.row_is;
       }
 
-  into_rows : (row : Row) → IsRowOf file rulings procs row → IsItem row (rows_of file rulings procs)
+  pub into_rows : (row : Row) → IsRowOf file rulings procs row → IsItem row (rows_of file rulings procs)
   into_rows row of =
       let is = of.is in
       let place = of.conclusion.proc in

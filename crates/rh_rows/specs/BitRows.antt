@@ -26,7 +26,7 @@ use Rattle.rh_domain.specs.declared.fact.FactAt.{FactAt}
 use Rattle.rh_domain.specs.declared.fact.GroundFact.{GroundFact}
 use Rattle.rh_domain.specs.Binding.{Binding, bindings, domain_of}
 use Rattle.rh_domain.specs.Count.{binding_count, fact_count}
-use Rattle.rh_layout.specs.Bits.{count_on, width_of, word_count}
+use Rattle.rh_layout.specs.Bits.{IsBitOf, count_on, width_of, word_count}
 use Rattle.rh_ground.specs.Instance.{fact_under, is_instance}
 use Rattle.rh_ground.specs.Rows.{IsRow, premises_at}
 use Rattle.rh_system.specs.declared.system.Row.{Row}
@@ -115,3 +115,7 @@ pub record IsRowOf (file : Rules) (rulings : List Ruling) (procs : List Proc) (r
   pub is : IsRow file.rules rulings procs conclusion premises
   pub bit_is : row.bit ≡ bit_of file.schemas procs conclusion
   pub premises_are : row.premises ≡ map (bit_of file.schemas procs) premises
+
+-- the fact is one of the program, so it has a bit
+abbrev pub HasBit : List Schema → List Proc → FactAt → Type 0
+HasBit schemas procs fact = (bit : ℕ) × IsBitOf schemas procs bit fact

@@ -1,2 +1,3 @@
 pub mod BitRows
+pub mod Known
 pub mod Laws
