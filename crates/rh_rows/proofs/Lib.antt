@@ -6,3 +6,5 @@ pub mod EdgeStands
 pub mod Covered
 pub mod ProgramFacts
 pub mod GreatestFacts
+pub mod FewSchemas
+pub mod NoFact

@@ -1,7 +1,11 @@
 //! The rows of a program's instances, over the bits of facts.
 #![tactic(auto)]
 
+mod ground;
+
 ghost use Rattle.rh_rows.specs.Laws.{BitsAreComputed, GreatestIsKnown, RowsAreCovered, RowsAreInstances, RowsHaveBits};
+
+pub use ground::Ground;
 
 /// The bit of a fact is computed from the numbers of its edge, its schema and its arguments.
 pub fn bit_is()
