@@ -8,11 +8,13 @@ use Rattle.rh_log.specs.declared.log.Admission.{Admission}
 use Rattle.rh_log.specs.declared.log.Admission.TheVariants.{Admitted, Refused}
 use Rattle.rh_log.specs.declared.log.Log.{Log}
 use Rattle.rh_rule.specs.declared.rule.Rule.{Rule}
+use Rattle.rh_rule.specs.declared.rule.Ruling.{Ruling}
+use Rattle.rh_rule.specs.declared.rule.Ruling.TheVariants.{Admitted as IsAdmittedRule, Refused as IsRefusedRule}
 use Rattle.rh_rule.specs.declared.schema.Schema.{Schema}
 use Rattle.rh_meaning.specs.Literal.{TreeLit}
 use Rattle.rh_oblig.specs.Goals.{goals}
 use Rattle.rh_oblig.specs.Obligation.{IsAdmitted, IsShown, obligations_of}
-use Rattle.rh_oblig.specs.Ruling.{IsFirstOpen}
+use Rattle.rh_oblig.specs.Ruling.{IsFirstOpen, IsRuling}
 use Rattle.rh_refuter.specs.declared.search.Verdict.{Verdict}
 use Rattle.rh_refuter.specs.declared.search.Verdict.TheVariants.{Closed, Open}
 use Rattle.rh_refuter.proofs.Fixed.{one_found}
@@ -56,6 +58,13 @@ module _ (schemas : List Schema) (rule : Rule) where
       | inr after ↦ absurd (never two.goal other two refl (one.first other two.goal after two.stands))
     ]
   ]
+
+  -- a rule has one ruling
+  pub one_ruling : (one other : Ruling) → IsRuling schemas rule one → IsRuling schemas rule other → one ≡ other
+  one_ruling IsAdmittedRule IsAdmittedRule one two = refl
+  one_ruling IsAdmittedRule (IsRefusedRule number) one two = absurd (not_both number one two)
+  one_ruling (IsRefusedRule number) IsAdmittedRule one two = absurd (not_both number two one)
+  one_ruling (IsRefusedRule number) (IsRefusedRule other) one two = ap IsRefusedRule (one_first number other one two)
 
   one_told : (one other : Admission) → IsTold schemas rule one → IsTold schemas rule other → one ≡ other
   one_told (Admitted logs) (Admitted others) one two = ap (λ (all : List Log). Admitted all) (logs_are (obligations_of schemas rule) logs others one.kept two.kept)

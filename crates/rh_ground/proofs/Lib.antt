@@ -3,8 +3,8 @@ pub mod Shapes
 pub mod Members
 pub mod Fitting
 pub mod FindLists
-pub mod Searching
 pub mod SameArgs
 pub mod SameFacts
+pub mod SameForm
 pub mod Finding
 pub mod Greatest

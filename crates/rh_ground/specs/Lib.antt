@@ -1,8 +1,8 @@
 pub mod Match
+pub mod Forms
 pub mod Template
 pub mod Instance
 pub mod Rows
-pub mod Search
 pub mod Find
 pub mod Fixed
 pub mod SameFact

@@ -1,15 +1,31 @@
 //! What a metavariable is bound to wherever a pattern is a statement, and wherever a fact of a rule is a given one. No
-//! bindings are tried.
+//! bindings are tried. Where a form, a number or two answers tell that no binding passes, the answer is `NOTHING`.
 ghost use Rattle.std.specs.Prelude.{◌≡◌, ◌&&◌, Some, map, slice_get, IfSome};
 ghost use Rattle.rh_rule.specs.declared.rule.RuleBase.TheVariants.{Meta};
 ghost use Rattle.rh_domain.specs.Binding.{arg_under};
-ghost use Rattle.rh_ground.specs.Fixed.{Fixes, as_arg};
+ghost use Rattle.rh_ground.specs.Fixed.{Agrees, Fixes, as_arg};
 ghost use Rattle.rh_ground.specs.Instance.{is_instance, matches_at, matches_entry};
 ghost use Rattle.rh_ground.specs.Match.{assigns, is_operand, is_variable, matches};
 ghost use Rattle.rh_ground.specs.SameFact.{args_eq};
 
+use crate::forms::is_form_of;
 use rh_il::{Base, Node, Proc, Stmt};
 use rh_rule::{Arg, FactUse, Form, Rule, RuleBase};
+
+/// What no metavariable is bound to: the answer where no binding passes, which ends a search.
+const NOTHING: Arg = Arg::Var(u32::MAX);
+
+/// What a metavariable is bound to in every binding that passes two tests, where each answer is that of one test. Two
+/// answers that differ give one that is of no domain.
+pub fn agreed(first: Option<Arg>, second: Option<Arg>) -> Option<Arg>
+    ensures { Agrees first second result }
+{
+    match (first, second) {
+        (Some(one), Some(other)) if one != other => Some(NOTHING),
+        (None, _) => second,
+        _ => first,
+    }
+}
 
 /// The argument that an operand of a statement is.
 fn as_arg(base: Base) -> Arg
@@ -52,21 +68,30 @@ fn fixed_by_variable_or_operand(
 ) -> Option<Arg>
     ensures { IfSome result (Fixes (λ binding. is_variable binding name variable && is_operand binding operand base) meta) }
 {
-    fixed_by_variable(name, variable, meta).or(fixed_by_operand(operand, base, meta))
+    agreed(
+        fixed_by_variable(name, variable, meta),
+        fixed_by_operand(operand, base, meta),
+    )
 }
 
 /// The same of two variables.
 fn fixed_by_variables(names: (u32, u32), variables: (u32, u32), meta: u32) -> Option<Arg>
     ensures { IfSome result (Fixes (λ binding. is_variable binding names.0 variables.0 && is_variable binding names.1 variables.1) meta) }
 {
-    fixed_by_variable(names.0, variables.0, meta).or(fixed_by_variable(names.1, variables.1, meta))
+    agreed(
+        fixed_by_variable(names.0, variables.0, meta),
+        fixed_by_variable(names.1, variables.1, meta),
+    )
 }
 
 /// The same of two operands.
 fn fixed_by_operands(operands: (RuleBase, RuleBase), bases: (Base, Base), meta: u32) -> Option<Arg>
     ensures { IfSome result (Fixes (λ binding. is_operand binding operands.0 bases.0 && is_operand binding operands.1 bases.1) meta) }
 {
-    fixed_by_operand(operands.0, bases.0, meta).or(fixed_by_operand(operands.1, bases.1, meta))
+    agreed(
+        fixed_by_operand(operands.0, bases.0, meta),
+        fixed_by_operand(operands.1, bases.1, meta),
+    )
 }
 
 /// The same of a variable and two operands.
@@ -79,7 +104,10 @@ fn fixed_by_computation(
 ) -> Option<Arg>
     ensures { IfSome result (Fixes (λ binding. is_variable binding name variable && (is_operand binding operands.0 bases.0 && is_operand binding operands.1 bases.1)) meta) }
 {
-    fixed_by_variable(name, variable, meta).or(fixed_by_operands(operands, bases, meta))
+    agreed(
+        fixed_by_variable(name, variable, meta),
+        fixed_by_operands(operands, bases, meta),
+    )
 }
 
 /// The same of an assignment that is no call, by the variable that it sets.
@@ -96,8 +124,8 @@ fn fixed_by_assignment(to: u32, stmt: Stmt, meta: u32) -> Option<Arg>
     }
 }
 
-/// What a metavariable is bound to wherever a pattern is the statement, where that is known.
-pub fn fixed_by_pattern(pattern: Form, stmt: Stmt, meta: u32) -> Option<Arg>
+/// The same of a pattern of the form of the statement.
+fn fixed_by_form(pattern: Form, stmt: Stmt, meta: u32) -> Option<Arg>
     ensures { IfSome result (Fixes (λ binding. matches binding pattern stmt) meta) }
 {
     match (pattern, stmt) {
@@ -132,6 +160,17 @@ pub fn fixed_by_pattern(pattern: Form, stmt: Stmt, meta: u32) -> Option<Arg>
     }
 }
 
+/// What a metavariable is bound to wherever a pattern is the statement, where that is known.
+pub fn fixed_by_pattern(pattern: Form, stmt: Stmt, meta: u32) -> Option<Arg>
+    ensures { IfSome result (Fixes (λ binding. matches binding pattern stmt) meta) }
+{
+    if is_form_of(pattern, stmt) {
+        fixed_by_form(pattern, stmt, meta)
+    } else {
+        Some(NOTHING)
+    }
+}
+
 /// What a metavariable is bound to wherever a pattern is the entry of a procedure, whose parameter is its first
 /// variable.
 fn fixed_by_entry(pattern: Form, meta: u32) -> Option<Arg>
@@ -139,7 +178,7 @@ fn fixed_by_entry(pattern: Form, meta: u32) -> Option<Arg>
 {
     match pattern {
         Form::Entry(param) => fixed_by_variable(param, 0, meta),
-        _ => None,
+        _ => Some(NOTHING),
     }
 }
 

@@ -6,5 +6,7 @@ pub mod FactBits
 pub mod Small
 pub mod LaidOut
 pub mod LaidWords
+pub mod WordSearch
 pub mod FoundFacts
 pub mod FoundBits
+pub mod EnteringEdges

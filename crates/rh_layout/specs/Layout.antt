@@ -12,6 +12,7 @@ use Rattle.rh_layout.specs.declared.laid.LayoutFault.{LayoutFault}
 use Rattle.rh_layout.specs.declared.laid.LayoutFault.TheVariants.{NoMemory, TooManyFacts, TooManyWords}
 use Rattle.rh_domain.specs.Binding.{domain_of}
 use Rattle.rh_layout.specs.Bits.{IsBitOf, count_on, width_of, word_count}
+use Rattle.rh_layout.specs.Entering.{AreEntering}
 use Rattle.rh_domain.specs.Count.{AreFew, IsSmall}
 use Rattle.rh_domain.specs.First.{AreFirsts}
 
@@ -54,6 +55,7 @@ pub record IsLaidProc (schemas : List Schema) (proc : Proc) (first_word : ℕ) (
   pub few_facts : count_on schemas proc ≤ 65536
   pub width_is : laid.width ≡ width_of (count_on schemas proc)
   pub edges_are : laid.edges ≡ edges_of proc
+  pub entering_are : AreEntering proc laid.entering
   pub first_is : laid.first_word ≡ first_word
   pub next_is : laid.next_word ≡ first_word + length (edges_of proc) * width_of (count_on schemas proc)
 

@@ -1,2 +1,3 @@
 pub mod Bits
+pub mod Entering
 pub mod Layout

@@ -8,11 +8,13 @@ ghost use Rattle.rh_domain.specs.Binding.{domain_of};
 ghost use Rattle.rh_layout.specs.Bits.{full_word};
 ghost use Rattle.rh_domain.specs.Facts.{facts_over};
 ghost use Rattle.rh_domain.specs.First.{AreFirsts};
+ghost use Rattle.rh_layout.specs.Entering.{entering_at};
 ghost use Rattle.rh_layout.specs.Layout.{IsFaultAt, IsLaidProc, edge_with, has_word, place_in_edge};
 
 use crate::edges::edges_of;
+use crate::entering::entering_numbers;
 use rh_domain::{Domain, FactAt, fact_at, fact_count, first_numbers, number_of};
-use rh_il::{Edge, Proc};
+use rh_il::{Edge, Node, Proc, Program};
 use rh_list::Items;
 use rh_rule::{Arg, Schema};
 use std::alloc::{AllocError, AllocFailed, Global};
@@ -33,6 +35,8 @@ pub struct LaidProc {
     pub width: u32,
     /// Its edges, in their order.
     pub edges: Items<Edge>,
+    /// For each statement the numbers of the edges that enter it, rising. The number of an edge is its place in `edges`.
+    pub entering: Items<Items<u32>>,
     /// Its first word.
     pub first_word: u32,
     /// The first word after its own.
@@ -83,11 +87,13 @@ fn small_domain(alloc: Global, proc: &Proc) -> Result<Domain, AllocError>
 pub(crate) fn lay_out(
     alloc: Global,
     schemas: &[Schema],
+    program: &Program,
     number: u32,
     proc: &Proc,
     first_word: u32,
 ) -> Result<LaidProc, LayoutFault>
     requires few { AreFew schemas.now }
+    requires at { slice_get program.now number ≡ Some proc.now }
     requires short { ProcPassed proc.now }
     requires room { first_word ≤ 255 * 2098176 }
     ensures laid { IfOk result (IsLaidProc schemas.now proc.now first_word) }
@@ -104,14 +110,14 @@ pub(crate) fn lay_out(
     }
     let facts = count as u32;
     let width = facts.div_ceil(64);
-    let firsts = first_numbers(alloc, &domain, schemas)?;
     let edges = Items::from(edges_of(alloc, proc.body.as_slice())?);
     let next_word = first_word + edges.len() as u32 * width;
     Ok(LaidProc {
+        firsts: first_numbers(alloc, &domain, schemas)?,
         domain,
-        firsts,
         facts,
         width,
+        entering: entering_numbers(alloc, program, number, proc, edges.as_slice())?,
         edges,
         first_word,
         next_word,
@@ -119,6 +125,20 @@ pub(crate) fn lay_out(
 }
 
 impl LaidProc {
+    /// The numbers of the edges that enter a node, rising, where the procedure has the node. No edge enters the entry.
+    pub fn entering_at(&self, node: Node) -> Option<&[u32]>
+        ensures found { IfSome result (λ numbers. entering_at self.now.entering node ≡ Some numbers.now) }
+        ensures none { IfNone result (entering_at self.now.entering node ≡ None) }
+    {
+        match node {
+            Node::Entry => Some(&[]),
+            Node::At(number) => {
+                let numbers = self.entering.as_slice().get(number as usize)?;
+                Some(numbers.as_slice())
+            }
+        }
+    }
+
     /// Whether a word is one of the procedure's.
     pub(crate) fn has_word(&self, word: u64) -> bool
         ensures { result ≡ has_word word self.now }

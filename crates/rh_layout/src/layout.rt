@@ -1,12 +1,14 @@
 //! The facts on the edges of a program as bits of words. `Layout::new` lays them out, and the other calls find the
 //! fact of a bit and the bit of a fact.
-ghost use Rattle.std.specs.Prelude.{ℕ, List, ◌≡◌, IfErr, IfNone, IfOk, IfSome, slice_index};
+ghost use Rattle.std.specs.Prelude.{ℕ, List, ◌≡◌, ◌<◌, ◌≤◌, IfErr, IfNone, IfOk, IfSome, nat_le, slice_index};
 ghost use Rattle.std.specs.List.{position};
+ghost use Rattle.std.specs.List.Sorted.{IsNonDecreasingBy, IsPartitionPoint};
 ghost use Rattle.rh_il.specs.declared.program.Proc.{Proc};
 ghost use Rattle.rh_rule.specs.declared.schema.Schema.{Schema};
 ghost use Rattle.rh_domain.specs.declared.fact.FactAt.{FactAt};
 ghost use Rattle.rh_layout.specs.Bits.{IsBitOf, full_words, word_count};
 ghost use Rattle.rh_domain.specs.Count.{AreFew};
+ghost use Rattle.rh_layout.specs.declared.laid.LaidProc.{LaidProc};
 ghost use Rattle.rh_layout.specs.Layout.{IsBitOn, IsFaultOf, IsLayoutOf, has_word};
 
 use crate::laid::{LaidProc, LayoutFault, lay_out};
@@ -40,7 +42,7 @@ impl Layout {
             let Some(proc) = program.proc(number) else {
                 unreachable!()
             };
-            let laid = lay_out(alloc, schemas, number, proc, words)?;
+            let laid = lay_out(alloc, schemas, program, number, proc, words)?;
             words = laid.next_word;
             procs.push(laid)?;
         }
@@ -98,11 +100,27 @@ impl Layout {
 
     /// The place of the procedure that has a word.
     fn place_of(&self, word: u64) -> Option<usize>
+        requires { (schemas : List Schema) × (procs : List Proc) × IsLayoutOf schemas procs self.now }
         ensures { result ≡ position (has_word word) self.now.procs }
     {
-        self.procs
-            .as_slice()
-            .iter()
-            .position(|laid| laid.has_word(word))
+        let place = self.ended_by(word);
+        let laid = self.procs.as_slice().get(place)?;
+        if laid.has_word(word) {
+            Some(place)
+        } else {
+            None
+        }
+    }
+
+    /// How many procedures have no word from this one on. They are the first ones.
+    fn ended_by(&self, word: u64) -> usize
+        requires { IsNonDecreasingBy (λ (laid : LaidProc). laid.next_word) self.now.procs }
+        ensures { IsPartitionPoint (λ (laid : LaidProc). laid.next_word ≤ word) (λ (laid : LaidProc). word < laid.next_word) self.now.procs result }
+    {
+        self.procs.as_slice().partition_point(
+            |laid: &LaidProc| -> bool
+                ensures { result ≡ nat_le laid.now.next_word word }
+            { u64::from(laid.next_word) <= word },
+        )
     }
 }

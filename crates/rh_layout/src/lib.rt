@@ -3,6 +3,7 @@
 #![tactic(auto)]
 
 mod edges;
+mod entering;
 mod laid;
 mod layout;
 

@@ -10,11 +10,9 @@ pub mod Own
 pub mod Plain
 pub mod Forms
 pub mod Facts
-pub mod Candidates
 pub mod Templates
 pub mod Rewriting
 pub mod Footprints
-pub mod Shaped
 pub mod Suspended
 pub mod Invariant
 pub mod SameSteps

@@ -1,6 +1,5 @@
 -- The statement that takes the place of another makes its step.
-use Rattle.std.proofs.Common.{ℕ, ◌≡◌, ◌≢◌, true, List, length, Option, Some, None, refl}
-use Rattle.std.specs.Option.{option_map_or}
+use Rattle.std.proofs.Common.{ℕ, ◌≡◌, ◌≢◌, List, length, Option, Some, None, refl}
 use Rattle.rh_il.specs.declared.program.Base.{Base}
 use Rattle.rh_il.specs.declared.program.Edge.{Edge}
 use Rattle.rh_il.specs.declared.program.Node.TheVariants.{At}
@@ -14,22 +13,16 @@ use Rattle.rh_rule.specs.declared.rule.Ruling.{Ruling}
 use Rattle.rh_rule.specs.RuleFiles.{Rules}
 use Rattle.rh_rule.proofs.Passed.{rule_passed}
 use Rattle.rh_domain.specs.Facts.{Known}
-use Rattle.rh_ground.specs.Match.{matches, template_under}
-use Rattle.rh_ground.specs.Template.{IsTemplateOf}
 use Rattle.rh_ground.proofs.Fitting.{binding_fits}
 use Rattle.rh_transform.specs.Rewritten.{Candidate, first_applicable}
-use Rattle.rh_transform.proofs.FromFiles.{template_of_rule}
+use Rattle.rh_transform.proofs.Candidates.{IsFirst, first_is}
+use Rattle.rh_transform.proofs.Shaped.{by_first, fit_of, pattern_is}
 use Rattle.rh_lift.specs.Local.{RewritingKeepsCalls, RewritingSteps}
 use Rattle.rh_lift.specs.Standing.{IsProvedSet, Stands}
-use Rattle.rh_lift.proofs.Candidates.{IsFirst, first_is}
 use Rattle.rh_lift.proofs.Concluded.{Applies}
-use Rattle.rh_lift.proofs.Facts.{is_about, pattern_at, premises_at_statement, schemas_pass}
+use Rattle.rh_lift.proofs.Facts.{is_about, premises_at_statement, schemas_pass}
 use Rattle.rh_lift.proofs.Models.{at_rest, rest_fits}
 use Rattle.rh_lift.proofs.Templates.{call_becomes, kept_by_form}
-
--- the statement by the first applicable candidate
-abbrev by_first : Option Candidate → Stmt → Stmt
-by_first first stmt = option_map_or (λ candidate. template_under candidate.binding candidate.template stmt) first stmt
 
 module _ (file : Rules) (rulings : List Ruling) (procs : List Proc) (known : Known) (set : IsProvedSet file rulings procs known)
     (place : ℕ) (edge : Edge) (base : ℕ) (cells : List Value) (proc : Proc) (number : ℕ) (stmt : Stmt) (at : Stands file.schemas known procs place edge base cells proc number stmt)
@@ -47,12 +40,6 @@ module _ (file : Rules) (rulings : List Ruling) (procs : List Proc) (known : Kno
         premises = premises_at_statement file rulings procs known set place edge base cells proc number stmt at candidate.rule candidate.binding first.premises;
       }
 
-  fit : IsTemplateOf candidate.rule.params candidate.rule.pattern candidate.template
-  fit = template_of_rule file.schemas candidate.rule candidate.template applies.passed first.from.transforms
-
-  pattern_is : matches candidate.binding candidate.rule.pattern stmt ≡ true
-  pattern_is = pattern_at file rulings procs known set place edge base cells proc number stmt at candidate.rule candidate.binding (is_about proc candidate.rule candidate.binding (At number) first.is_instance)
-
 by_steps : (file : Rules) (rulings : List Ruling) (procs : List Proc) (known : Known) (top : Frame) (below : List Frame) (cells : List Value) (proc : Proc) (number : ℕ) (stmt : Stmt)
     (first : Option Candidate) → IsProvedSet file rulings procs known → Stands file.schemas known procs top.proc top.edge top.base cells proc number stmt
     → executed procs top below cells number stmt ≢ Stuck → first_applicable known file.rules rulings top.proc proc number ≡ first
@@ -63,8 +50,8 @@ by_steps file rulings procs known top below cells proc number stmt (Some candida
     kept_by_form file.schemas candidate.rule candidate.template candidate.binding (length proc.vars) procs top below cells number stmt
     (applies file rulings procs known set top.proc top.edge top.base cells proc number stmt at candidate first) first.from.transforms at.safe moves
     candidate.rule.pattern refl candidate.template refl
-    (fit file rulings procs known set top.proc top.edge top.base cells proc number stmt at candidate first)
-    (pattern_is file rulings procs known set top.proc top.edge top.base cells proc number stmt at candidate first)
+    (fit_of file set.rules rulings known proc top.proc number candidate first)
+    (pattern_is file set.rules rulings known proc top.proc number stmt candidate at.stmt_at first)
 
 pub rewriting_steps : RewritingSteps
 rewriting_steps file rulings procs known top below cells proc number stmt set at moves =
@@ -80,8 +67,8 @@ by_calls file rulings procs known place edge base cells proc number to callee ar
     call_becomes file.schemas candidate.rule candidate.template candidate.binding (length proc.vars) base cells
     (applies file rulings procs known set place edge base cells proc number (Call to callee arg) at candidate first) first.from.transforms
     candidate.rule.pattern candidate.template to callee arg refl refl
-    (fit file rulings procs known set place edge base cells proc number (Call to callee arg) at candidate first)
-    (pattern_is file rulings procs known set place edge base cells proc number (Call to callee arg) at candidate first)
+    (fit_of file set.rules rulings known proc place number candidate first)
+    (pattern_is file set.rules rulings known proc place number (Call to callee arg) candidate at.stmt_at first)
 
 pub rewriting_keeps_calls : RewritingKeepsCalls
 rewriting_keeps_calls file rulings procs known place edge base cells proc number to callee arg set at =

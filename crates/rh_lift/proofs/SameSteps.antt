@@ -21,10 +21,10 @@ use Rattle.rh_domain.specs.Facts.{Known}
 use Rattle.rh_ground.proofs.Members.{read_all_numbered}
 use Rattle.rh_transform.specs.Rewritten.{rewritten_statement, rewritten_body, rewritten_proc, rewritten}
 use Rattle.rh_transform.proofs.Numbered.{changed_size}
+use Rattle.rh_transform.proofs.Shaped.{body_at, target_same}
 use Rattle.rh_lift.proofs.Rewriting.{rewriting_keeps_calls, rewriting_steps}
 use Rattle.rh_lift.specs.Standing.{IsProvedSet}
 use Rattle.rh_lift.proofs.Invariant.{FramesInvariant, FactsAt, Invariant, caller_at, top_stands}
-use Rattle.rh_lift.proofs.Shaped.{body_at, target_same}
 use Rattle.rh_lift.proofs.Suspended.{AreSuspended, IsSuspended}
 
 -- ---- main

@@ -1,31 +1,38 @@
 -- Lines of comments in front of a program's text leave it a text of that program.
-use Rattle.std.proofs.Common.{◌≡◌, ℕ, ◌<◌, ◌^◌, arith, length, Bool, true, false, not, ◌==◌, ◌&&◌, List, [], ◌∷◌, ◌++◌, codes, refl, sym, ap, subst, ◌∙◌, append_assoc, append-nil}
-use Rattle.std.proofs.lemmas.Bool.{and_parts, and_from, eqb-true, true≢false}
-use Rattle.std.specs.Prelude.{nat_le}
-use Rattle.std.specs.Char.{is_ascii_alphabetic, is_ascii_digit}
+use Rattle.std.proofs.Common.{◌≡◌, ℕ, List, [], ◌∷◌, ◌++◌, codes, true, refl, sym, ap, subst, ◌∙◌, append_assoc, append-nil}
+use Rattle.std.proofs.lemmas.Bool.{and_parts}
 use Rattle.std.specs.Fmt.{decimal}
-use Rattle.std.specs.List.{list_all, flat_map, AllByRecursion}
-use Rattle.rh_text.specs.Pieces.{Piece, Space, Comment, spelled, is_comment_byte, ArePieces, tokens_from}
-use Rattle.rh_text.proofs.Printing.{printed_tokens, decimal_digits}
+use Rattle.std.specs.List.{list_all, flat_map}
+use Rattle.std.specs.Option.{is_none}
+use Rattle.rh_text.specs.Pieces.{Piece, Space, Comment, spelled, ArePieces, tokens_from}
+use Rattle.rh_text.proofs.Printing.{printed_tokens}
 use Rattle.rh_grammar.specs.Derivation.{Derivable}
-use Rattle.rh_il.specs.Name.{is_name, is_word_byte}
+use Rattle.rh_il.specs.Checks.{IsProgram, has_proper_names}
+use Rattle.rh_il.specs.Name.{is_lower_name}
 use Rattle.rh_il.specs.declared.program.Proc.{Proc}
 use Rattle.rh_il_text.specs.Grammar.{productions, program}
 use Rattle.rh_il_text.specs.Program.{IsText}
 use Rattle.rh_il_text.specs.Words.{words_of, classes_of}
 use Rattle.rh_il_text.proofs.PieceWords.{words_said}
+use Rattle.rh_rule.specs.Keywords.{keyword_of}
+use Rattle.rh_rule.specs.RuleFiles.{IsRuleFile, Rules}
+use Rattle.rh_rule.specs.Words.{are_proper_params, is_proper, rule_is_proper, schema_is_proper}
 use Rattle.rh_rule.specs.declared.rule.Rule.{Rule}
 use Rattle.rh_rule.specs.declared.rule.Ruling.{Ruling}
 use Rattle.rh_rule.specs.declared.rule.Ruling.TheVariants.{Admitted, Refused}
-use Rattle.rh_report.specs.Lines.{IsNamed, IsNumbered}
-use Rattle.rh_report.specs.Output.{rule_line, rule_lines}
+use Rattle.rh_rule.specs.declared.schema.Schema.{Schema}
+use Rattle.rh_domain.specs.declared.fact.FactAt.{FactAt}
+use Rattle.rh_domain.specs.Facts.{Known, all_facts}
+use Rattle.std.specs.Prelude.{filter}
+use Rattle.rh_report.specs.Output.{fact_line, fact_lines, rule_line, rule_lines}
+use Rattle.rh_report.proofs.Free.{IsFree, decimal_is_free, fact_body, fact_is_free, free_joined, name_is_free}
 
 -- in front of a text of a program they leave it one
 abbrev pub AreComments : List ℕ → Type 0
 AreComments bytes = (text : List ℕ) (procs : List Proc) → IsText text procs → IsText (bytes ++ text) procs
 
 -- a line after `#`
-one_comment : (line : List ℕ) → list_all is_comment_byte line ≡ true → AreComments (35 ∷ line ++ 10 ∷ [])
+one_comment : (line : List ℕ) → IsFree line → AreComments (35 ∷ line ++ 10 ∷ [])
 one_comment line free text procs is =
     let pieces = is.spells.are_tokens.pieces in
     let longer : List Piece = Comment line ∷ Space 10 ∷ pieces in
@@ -51,56 +58,47 @@ one_comment line free text procs is =
       passes = is.passes;
     }
 
-free_append : (xs ys : List ℕ) → list_all is_comment_byte xs ≡ true → list_all is_comment_byte ys ≡ true → list_all is_comment_byte (xs ++ ys) ≡ true
-free_append [] ys first second = second
-free_append (x ∷ xs) ys first second =
-    let parts = and_parts (is_comment_byte x) (list_all is_comment_byte xs) first in
-    and_from (is_comment_byte x) (list_all is_comment_byte (xs ++ ys)) parts.0 (free_append xs ys parts.1 second)
+-- comments and comments behind them
+both : (front back : List ℕ) → AreComments front → AreComments back → AreComments (front ++ back)
+both front back first second text procs is = subst (λ (t : List ℕ). IsText t procs) (sym (append_assoc front back text)) (first (back ++ text) procs (second text procs is))
 
--- a byte that passes a test which the end of a line does not pass
-other_byte : (test : ℕ → Bool) (b : ℕ) → test 10 ≡ false → test b ≡ true → is_comment_byte b ≡ true
-other_byte test b no_end passes = by (b == 10) refl
-  where
-    by : (t : Bool) → (b == 10) ≡ t → not t ≡ true
-    by true e = let same : b ≡ 10 = eqb-true b 10 e in absurd (true≢false (sym passes ∙ ap test same ∙ no_end))
-    by false e = refl
-
-other_bytes : (test : ℕ → Bool) (bytes : List ℕ) → test 10 ≡ false → list_all test bytes ≡ true → list_all is_comment_byte bytes ≡ true
-other_bytes test [] no_end passes = refl
-other_bytes test (b ∷ bs) no_end passes =
-    let parts = and_parts (test b) (list_all test bs) passes in
-    and_from (is_comment_byte b) (list_all is_comment_byte bs) (other_byte test b no_end parts.0) (other_bytes test bs no_end parts.1)
-
-name_is_free : (name : List ℕ) → is_name name ≡ true → list_all is_comment_byte name ≡ true
-name_is_free [] is = refl
-name_is_free (first ∷ rest) is =
-    let parts = and_parts (is_ascii_alphabetic first) (nat_le (length rest) 31 && list_all is_word_byte rest) is in
-    and_from (is_comment_byte first) (list_all is_comment_byte rest) (other_byte is_ascii_alphabetic first refl parts.0)
-    (other_bytes is_word_byte rest refl (and_parts (nat_le (length rest) 31) (list_all is_word_byte rest) parts.1).1)
-
-number_is_free : (n : ℕ) → n < 2 ^ 32 → list_all is_comment_byte (decimal n) ≡ true
-number_is_free n small = other_bytes is_ascii_digit (decimal n) refl (decimal_digits n (omega (arith, small))).1
+each : {X : Type 0} (line : X → List ℕ) (xs : List X) → ((x : X) → AreComments (line x)) → AreComments (flat_map line xs)
+each line [] are = λ text procs is. is
+each line (x ∷ xs) are = both (line x) (flat_map line xs) (are x) (each line xs are)
 
 -- the line of a rule, whatever stands after its name
-named_comment : (name : List ℕ) (ruled : List ℕ) → list_all is_comment_byte name ≡ true → list_all is_comment_byte ruled ≡ true → AreComments (codes "# rule " ++ (name ++ (ruled ++ 10 ∷ [])))
+named_comment : (name : List ℕ) (ruled : List ℕ) → IsFree name → IsFree ruled → AreComments (codes "# rule " ++ (name ++ (ruled ++ 10 ∷ [])))
 named_comment name ruled free also =
     let line : List ℕ = codes " rule " ++ (name ++ ruled) in
     let whole : 35 ∷ line ++ 10 ∷ [] ≡ codes "# rule " ++ (name ++ (ruled ++ 10 ∷ [])) = ap (λ (l : List ℕ). codes "# rule " ++ l) (append_assoc name ruled (10 ∷ [])) in
-    subst AreComments whole (one_comment line (free_append (codes " rule ") (name ++ ruled) refl (free_append name ruled free also)))
+    subst AreComments whole (one_comment line (free_joined (codes " rule ") (name ++ ruled) refl (free_joined name ruled free also)))
 
-comment : (rule : Rule) (ruling : Ruling) → IsNamed rule → IsNumbered ruling → AreComments (rule_line rule ruling)
-comment rule Admitted named small = named_comment rule.name (codes " admitted") (name_is_free rule.name named) refl
-comment rule (Refused n) named small =
+rule_comment : (rule : Rule) (ruling : Ruling) → IsFree rule.name → AreComments (rule_line rule ruling)
+rule_comment rule Admitted named = named_comment rule.name (codes " admitted") named refl
+rule_comment rule (Refused n) named =
     let ruled : List ℕ = codes " refused at " ++ decimal n in
     subst AreComments (ap (λ (l : List ℕ). codes "# rule " ++ (rule.name ++ l)) (append_assoc (codes " refused at ") (decimal n) (10 ∷ [])))
-    (named_comment rule.name ruled (name_is_free rule.name named) (free_append (codes " refused at ") (decimal n) refl (number_is_free n small)))
+    (named_comment rule.name ruled named (free_joined (codes " refused at ") (decimal n) refl (decimal_is_free n)))
+
+rule_named : (rule : Rule) → rule_is_proper rule ≡ true → IsFree rule.name
+rule_named rule is =
+    name_is_free rule.name (and_parts (is_lower_name rule.name) (is_none (keyword_of rule.name)) (and_parts (is_proper rule.name) (are_proper_params rule.params) is).0).0
 
 -- the lines of all rules
-pub comments : (rules : List Rule) (rulings : List Ruling) → AllByRecursion IsNamed rules → AllByRecursion IsNumbered rulings → AreComments (rule_lines rules rulings)
-comments [] rulings named small text procs is = is
-comments (rule ∷ rules) [] named small text procs is = is
-comments (rule ∷ rules) (ruling ∷ rulings) named small text procs is =
-    let line = rule_line rule ruling in
-    let lines = rule_lines rules rulings in
-    subst (λ (t : List ℕ). IsText t procs) (sym (append_assoc line lines text))
-    (comment rule ruling named.0 small.0 (lines ++ text) procs (comments rules rulings named.1 small.1 text procs is))
+rule_comments : (rules : List Rule) (rulings : List Ruling) → list_all rule_is_proper rules ≡ true → AreComments (rule_lines rules rulings)
+rule_comments [] rulings named = λ text procs is. is
+rule_comments (rule ∷ rules) [] named = λ text procs is. is
+rule_comments (rule ∷ rules) (ruling ∷ rulings) named =
+    let parts = and_parts (rule_is_proper rule) (list_all rule_is_proper rules) named in
+    both (rule_line rule ruling) (rule_lines rules rulings) (rule_comment rule ruling (rule_named rule parts.0)) (rule_comments rules rulings parts.1)
+
+-- the lines of facts
+fact_comment : (schemas : List Schema) (procs : List Proc) → list_all schema_is_proper schemas ≡ true → list_all has_proper_names procs ≡ true → (fact : FactAt) → AreComments (fact_line schemas procs fact)
+fact_comment schemas procs schemas_named procs_named fact = one_comment (fact_body schemas procs fact) (fact_is_free schemas procs schemas_named procs_named fact)
+
+-- the lines before the program
+pub comments : (file : Rules) (rulings : List Ruling) (procs : List Proc) (known : Known) → IsRuleFile file → IsProgram procs → AreComments (rule_lines file.rules rulings ++ fact_lines file.schemas procs known)
+comments file rulings procs known is_file is_program =
+    let named = and_parts (list_all schema_is_proper file.schemas) (list_all rule_is_proper file.rules) is_file.names in
+    both (rule_lines file.rules rulings) (fact_lines file.schemas procs known) (rule_comments file.rules rulings named.1)
+    (each (fact_line file.schemas procs) (filter known (all_facts file.schemas procs)) (fact_comment file.schemas procs named.0 is_program.names))

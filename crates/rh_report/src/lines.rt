@@ -1,14 +1,16 @@
-//! A line for each rule, and the program after them.
+//! A line for each rule, a line for each known fact, and the program after them.
 ghost use Rattle.std.specs.Prelude.{◌≡◌, ◌++◌, IfOk, OnOk, length};
-ghost use Rattle.std.specs.List.{AllByRecursion};
+ghost use Rattle.rh_il.specs.Checks.{IsProgram};
 ghost use Rattle.rh_il_text.specs.Program.{IsText};
 ghost use Rattle.rh_il_text.specs.Text.{program_text};
-ghost use Rattle.rh_report.specs.Lines.{IsNamed, IsNumbered};
-ghost use Rattle.rh_report.specs.Output.{rule_line, rule_lines, ruling_text};
+ghost use Rattle.rh_rows.specs.Known.{known_in};
+ghost use Rattle.rh_report.specs.Output.{fact_lines, rule_line, rule_lines, ruling_text};
 
+use crate::known::push_known;
 use rh_il::Program;
 use rh_il_text::print_program;
 use rh_print::push;
+use rh_rows::Ground;
 use rh_rule::{Rule, Ruling};
 use std::alloc::{AllocError, Global};
 
@@ -52,49 +54,38 @@ fn push_rule_lines(
     Ok(())
 }
 
-/// A law: rules have names.
-fn are_named(rules: &[Rule])
-    ensures { AllByRecursion IsNamed rules.now }
+/// A law: a program passes every check.
+fn is_program(program: &Program)
+    ensures { IsProgram program.now }
 {
-    for rule in rules {
-        let _name = rule.name.bytes();
-    }
+    let _count = program.count();
 }
 
-fn is_numbered(ruling: Ruling)
-    ensures { IsNumbered ruling }
-{
-    match ruling {
-        Ruling::Admitted => {}
-        Ruling::Refused(_obligation) => {}
-    }
-}
-
-/// A law: the numbers of obligations are those of 32 bits.
-fn are_numbered(rulings: &[Ruling])
-    ensures { AllByRecursion IsNumbered rulings.now }
-{
-    for ruling in rulings {
-        is_numbered(*ruling);
-    }
-}
-
-/// The output of `opt` for a rule file without schemas: each rule with its ruling, and the
-/// rewritten program. The rules' lines are comments, so it is a text of that program.
+/// The output of `opt`: each rule with its ruling, each fact of the program whose bit stands in the words, and the
+/// rewritten program `q`. Missing words count as 0, and bits that stand for no fact add no line. The lines before `q`
+/// are comments, so the whole is a text of it.
 pub fn report(
     alloc: Global,
-    rules: &[Rule],
-    rulings: &[Ruling],
+    ground: &Ground,
+    words: &[u64],
     q: &Program,
 ) -> Result<Vec<u8>, AllocError>
-    requires { length rules.now ≡ length rulings.now }
-    ensures text { IfOk result (λ text. text.items ≡ rule_lines rules.now rulings.now ++ program_text q.now) }
+    ensures text { IfOk result (λ text. text.items ≡ rule_lines ground.now.file.rules ground.now.rulings ++ fact_lines ground.now.file.schemas ground.now.program (known_in ground.now.file.schemas ground.now.program words.now) ++ program_text q.now) }
     ensures program { IfOk result (λ text. IsText text.items q.now) }
 {
-    are_named(rules);
-    are_numbered(rulings);
+    let file = ground.file();
+    let program = ground.program();
+    is_program(program);
     let mut out = Vec::new(alloc);
-    push_rule_lines(alloc, &mut out, rules, rulings)?;
+    push_rule_lines(alloc, &mut out, file.rules(), ground.rulings())?;
+    push_known(
+        alloc,
+        &mut out,
+        file.schemas(),
+        program,
+        ground.layout(),
+        words,
+    )?;
     push(&mut out, print_program(alloc, q)?.as_slice())?;
     Ok(out)
 }

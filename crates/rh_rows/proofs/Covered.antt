@@ -3,6 +3,7 @@ use Rattle.std.proofs.Common.{ℕ, ◌≡◌, ◌+◌, ◌*◌, true, List, take
 use Rattle.std.specs.List.{All, list_all}
 use Rattle.std.specs.Prelude.{IsTrue}
 use Rattle.std.proofs.lemmas.Bool.{and_parts}
+use Rattle.std.proofs.lemmas.List.Sums.{list_all-from_AllPass}
 use Rattle.rh_il.specs.declared.program.Edge.{Edge}
 use Rattle.rh_il.specs.declared.program.Proc.{Proc}
 use Rattle.rh_il.specs.Flow.{edges_of}
@@ -107,3 +108,6 @@ rows_have_bits file rulings procs conclusion premises is_file is =
 
 pub rows_covered : (file : Rules) (rulings : List Ruling) (procs : List Proc) → IsRuleFile file → IsCovered (full_words file.schemas procs) (rows_of file rulings procs)
 rows_covered file rulings procs is_file = all_of_items (λ (row : Row). IsTrue (bits_in (full_words file.schemas procs) row.bit)) (rows_of file rulings procs) (stands_full file rulings procs is_file)
+
+pub all_covered : (file : Rules) (rulings : List Ruling) (procs : List Proc) → IsRuleFile file → list_all (λ row. bits_in (full_words file.schemas procs) row.bit) (rows_of file rulings procs) ≡ true
+all_covered file rulings procs is_file = list_all-from_AllPass (λ row. bits_in (full_words file.schemas procs) row.bit) (rows_of file rulings procs) (rows_covered file rulings procs is_file)

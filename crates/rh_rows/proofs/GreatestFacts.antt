@@ -24,20 +24,20 @@ use Rattle.rh_rows.proofs.ProgramFacts.{fact_stands, has_bit, is_fact}
 use Rattle.rh_rows.proofs.RowItems.{into_rows, out_of_rows}
 
 -- a row of the bit whose premises are in the set
-record Supporting (rows : List Row) (set : BitSet) (bit : ℕ) : Type 0 where
+pub record Supporting (rows : List Row) (set : BitSet) (bit : ℕ) : Type 0 where
   pub row : Row
   pub there : IsItem row rows
   pub bit_is : row.bit ≡ bit
   pub within : list_all set row.premises ≡ true
 
-supporting : (rows : List Row) (set : BitSet) (bit : ℕ) → IsTrue (supports rows set bit) → Supporting rows set bit
+pub supporting : (rows : List Row) (set : BitSet) (bit : ℕ) → IsTrue (supports rows set bit) → Supporting rows set bit
 unfolding supports
 supporting rows set bit is =
     let found = some_item (λ (row : Row). (row.bit == bit) && list_all set row.premises) rows is in
     let parts = and_parts (found.0.bit == bit) (list_all set found.0.premises) found.2 in
     record { row = found.0; there = found.1; bit_is = eqb-true found.0.bit bit parts.0; within = parts.1 }
 
-supported_by : (rows : List Row) (set : BitSet) (bit : ℕ) → Supporting rows set bit → IsTrue (supports rows set bit)
+pub supported_by : (rows : List Row) (set : BitSet) (bit : ℕ) → Supporting rows set bit → IsTrue (supports rows set bit)
 unfolding supports
 supported_by rows set bit by =
     some_passes (λ (row : Row). (row.bit == bit) && list_all set row.premises) rows by.row by.there
@@ -50,7 +50,7 @@ module _ (file : Rules) (rulings : List Ruling) (procs : List Proc) (is_file : I
   abbrev bit_at : FactAt → ℕ
   bit_at = bit_of file.schemas procs
 
-  is_bit : (fact : FactAt) → HasBit file.schemas procs fact → IsBitOf file.schemas procs (bit_at fact) fact
+  pub is_bit : (fact : FactAt) → HasBit file.schemas procs fact → IsBitOf file.schemas procs (bit_at fact) fact
   is_bit fact has = subst (λ bit. IsBitOf file.schemas procs bit fact) (bit_is file.schemas procs has.0 fact has.1) has.1
 
   -- the facts of a set of bits

@@ -1,3 +1,4 @@
+pub mod Agreed
 pub mod BitNumbers
 pub mod Items
 pub mod RowItems
@@ -8,3 +9,9 @@ pub mod ProgramFacts
 pub mod GreatestFacts
 pub mod FewSchemas
 pub mod NoFact
+pub mod Supported
+pub mod EdgeNumbers
+pub mod Sought
+pub mod SiteMade
+pub mod KnownBefore
+pub mod FirstInstance

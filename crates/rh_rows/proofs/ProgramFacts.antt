@@ -24,23 +24,23 @@ use Rattle.rh_rows.proofs.Items.{in_flat_map, in_map, item_at, place_of, some_it
 
 -- ---- facts that are the same
 
-slot_eq-true : (a b : Slot) → slot_eq a b ≡ true → a ≡ b
+pub slot_eq-true : (a b : Slot) → slot_eq a b ≡ true → a ≡ b
 slot_eq-true Out Out is = refl
 slot_eq-true Then Then is = refl
 slot_eq-true Else Else is = refl
 slot_eq-true _ _ is = absurd (false≢true is)
 
-slot_eq-same : (a : Slot) → slot_eq a a ≡ true
+pub slot_eq-same : (a : Slot) → slot_eq a a ≡ true
 slot_eq-same Out = refl
 slot_eq-same Then = refl
 slot_eq-same Else = refl
 
-node_eq-true : (a b : Node) → node_eq a b ≡ true → a ≡ b
+pub node_eq-true : (a b : Node) → node_eq a b ≡ true → a ≡ b
 node_eq-true Entry Entry is = refl
 node_eq-true (At a) (At b) is = ap At (eqb-true a b is)
 node_eq-true _ _ is = absurd (false≢true is)
 
-node_eq-same : (a : Node) → node_eq a a ≡ true
+pub node_eq-same : (a : Node) → node_eq a a ≡ true
 node_eq-same Entry = refl
 node_eq-same (At a) = eq-eqb a a refl
 

@@ -1,13 +1,17 @@
 -- The facts whose bits stand in words.
-use Rattle.std.specs.Prelude.{ℕ, ◌==◌, Bool, true, false, ◌&&◌, List}
+use Rattle.std.specs.Prelude.{ℕ, ◌==◌, Bool, true, false, ◌&&◌, List, slice_get}
 use Rattle.std.specs.List.{list_any}
+use Rattle.std.specs.Option.{option_map_or}
+use Rattle.rh_il.specs.declared.program.Edge.{Edge}
 use Rattle.rh_il.specs.declared.program.Node.{Node}
 use Rattle.rh_il.specs.declared.program.Node.TheVariants.{Entry, At}
 use Rattle.rh_il.specs.declared.program.Proc.{Proc}
 use Rattle.rh_il.specs.declared.program.Slot.{Slot}
 use Rattle.rh_il.specs.declared.program.Slot.TheVariants.{Out, Then, Else}
+use Rattle.rh_il.specs.Flow.{edges_of}
 use Rattle.rh_rule.specs.declared.schema.Schema.{Schema}
 use Rattle.rh_domain.specs.declared.fact.FactAt.{FactAt}
+use Rattle.rh_domain.specs.declared.fact.GroundFact.{GroundFact}
 use Rattle.rh_domain.specs.Facts.{Known, all_facts}
 use Rattle.rh_ground.specs.SameFact.{fact_eq}
 use Rattle.rh_system.specs.Bits.{bits_in}
@@ -24,6 +28,9 @@ node_eq Entry Entry = true
 node_eq (At a) (At b) = a == b
 node_eq _ _ = false
 
+abbrev pub edge_eq : Edge → Edge → Bool
+edge_eq a b = node_eq a.node b.node && slot_eq a.slot b.slot
+
 -- the two are one fact on one edge of one procedure
 abbrev pub fact_at_eq : FactAt → FactAt → Bool
 fact_at_eq a b = a.proc == b.proc && (node_eq a.edge.node b.edge.node && (slot_eq a.edge.slot b.edge.slot && fact_eq a.fact b.fact))
@@ -35,3 +42,8 @@ is_fact_of schemas procs fact = list_any (fact_at_eq fact) (all_facts schemas pr
 -- the facts of the program whose bits stand in the words
 abbrev pub known_in : List Schema → List Proc → List ℕ → Known
 known_in schemas procs words fact = is_fact_of schemas procs fact && bits_in words (bit_of schemas procs fact)
+
+-- whether a fact is known on the edge with a number, where a procedure has this edge
+abbrev pub known_on : List Schema → List Proc → List ℕ → ℕ → Proc → GroundFact → ℕ → Bool
+known_on schemas procs words place proc fact edge =
+    option_map_or (λ on. known_in schemas procs words (record { proc = place; edge = on; fact = fact })) (slice_get (edges_of proc) edge) false

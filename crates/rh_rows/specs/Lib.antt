@@ -1,3 +1,5 @@
 pub mod BitRows
 pub mod Known
+pub mod Site
+pub mod Support
 pub mod Laws

@@ -2,10 +2,17 @@
 #![tactic(auto)]
 
 mod ground;
+mod instance;
+mod premises;
+mod site;
+mod support;
+mod threads;
 
 ghost use Rattle.rh_rows.specs.Laws.{BitsAreComputed, GreatestIsKnown, RowsAreCovered, RowsAreInstances, RowsHaveBits};
+ghost use Rattle.rh_rows.specs.Support.{NothingIsSupported, SupportIsByRules};
 
 pub use ground::Ground;
+pub use threads::grounds_cross_threads;
 
 /// The bit of a fact is computed from the numbers of its edge, its schema and its arguments.
 pub fn bit_is()
@@ -31,4 +38,14 @@ pub fn rows_covered()
 /// greatest set of facts.
 pub fn greatest_is_known()
     ensures { GreatestIsKnown }
+{}
+
+/// The rows support the bit of a fact exactly if some rule gives the fact.
+pub fn support_is_by_rules()
+    ensures { SupportIsByRules }
+{}
+
+/// The rows support no bit that stands for no fact.
+pub fn nothing_is_supported()
+    ensures { NothingIsSupported }
 {}

@@ -2,3 +2,4 @@ pub mod Supports
 pub mod Parts
 pub mod OneRound
 pub mod OneGreatest
+pub mod NextSet

@@ -1,5 +1,5 @@
 //! Bits of words.
-ghost use Rattle.std.specs.Prelude.{◌≡◌, ◌≢◌, ◌<◌, ◌==◌, ℕ};
+ghost use Rattle.std.specs.Prelude.{◌≡◌, ◌≢◌, ◌<◌, ◌≤◌, ◌==◌, ℕ, IfNone, IfSome};
 ghost use Rattle.std.specs.Int.{bit_at};
 ghost use Rattle.std.specs.List.{list_all};
 ghost use Rattle.rh_system.specs.Bits.{bits_in};
@@ -36,4 +36,22 @@ pub fn with_bit(word: u64, place: u32) -> u64
     ensures others { (other : ℕ) → other ≢ place → bit_at result other ≡ bit_at word other }
 {
     word | 1 << place
+}
+
+/// The least place from a place on at which a bit of the word is set.
+pub fn next_set(word: u64, from: u32) -> Option<u32>
+    ensures within { IfSome result (λ place. (from ≤ place) × (place < 64)) }
+    ensures found { IfSome result (λ place. bit_at word place ≡ 1) }
+    ensures least { IfSome result (λ place. (other : ℕ) → from ≤ other → other < place → bit_at word other ≡ 0) }
+    ensures none { IfNone result ((other : ℕ) → from ≤ other → other < 64 → bit_at word other ≡ 0) }
+{
+    if from >= 64 {
+        return None;
+    }
+    let left = word >> from;
+    if left == 0 {
+        None
+    } else {
+        Some(from + left.trailing_zeros())
+    }
 }

@@ -7,7 +7,7 @@ mod listed;
 mod rounds;
 mod system;
 
-pub use bits::{has, has_all, is_set, with_bit};
+pub use bits::{has, has_all, is_set, next_set, with_bit};
 pub use example::branch_in_a_loop;
 pub use listed::ListedSystem;
 pub use rounds::{full_words, greatest, one_greatest, supported_part};

@@ -4,7 +4,7 @@ ghost use Rattle.std.specs.Bool.{OnTrue, OnFalse};
 ghost use Rattle.rh_system.specs.Bits.{bits_in};
 ghost use Rattle.rh_system.specs.Rows.{IsSupported, IsSupportedPart, HoldsGreatest, IsGreatest};
 
-use crate::bits::{is_set, with_bit};
+use crate::bits::{next_set, with_bit};
 use crate::system::System;
 use std::alloc::{AllocError, Global};
 
@@ -29,10 +29,12 @@ pub fn supported_part<S: System>(system: &S, words: &[u64], word: u32) -> u64
     let all = words[word as usize];
     let first = 64 * u64::from(word);
     let mut part = 0;
-    for place in 0..64 {
-        if is_set(all, place) && system.supported(words, first + u64::from(place)) {
+    let mut from = 0;
+    while let Some(place) = next_set(all, from) {
+        if system.supported(words, first + u64::from(place)) {
             part = with_bit(part, place);
         }
+        from = place + 1;
     }
     part
 }

@@ -1,4 +1,5 @@
 pub mod Refusing
 pub mod Results
+pub mod OneOutput
 pub mod Completeness
 pub mod Others

@@ -5,10 +5,10 @@ use Rattle.rh_rule.specs.RuleFiles.{Rules}
 use Rattle.rh_top.specs.declared.status.Status.{Status}
 use Rattle.rh_top.specs.declared.status.Status.TheVariants.{Done, NoMemory}
 use Rattle.rh_top.specs.Call.{Reads, Writes, ReadFails, WriteFails, WroteNothing}
-use Rattle.rh_top.specs.Files.{IsBuiltRules, IsBuiltProgram}
-use Rattle.rh_top.specs.Steps.{HaveFewTerms}
+use Rattle.rh_top.specs.Files.{SpellProgram, SpellRules}
+use Rattle.rh_top.specs.Steps.{HaveFewTerms, HaveRoom}
 
--- the shelf holds accepted files, no obligation has too many terms, and no fault comes
+-- the shelf holds texts of a rule file and a program, no counted quantity passes its limit, and no fault comes
 pub record IsGood (reads : Reads) (writes : Writes) (rules program : List ℕ) : Type 0 where
   pub rules_bytes : List ℕ
   pub program_bytes : List ℕ
@@ -16,9 +16,10 @@ pub record IsGood (reads : Reads) (writes : Writes) (rules program : List ℕ) :
   pub program_held : reads.holds program ≡ Some program_bytes
   pub file : Rules
   pub procs : List Proc
-  pub rules_accepted : IsBuiltRules rules_bytes file
-  pub program_accepted : IsBuiltProgram program_bytes procs
+  pub rules_accepted : SpellRules rules_bytes file
+  pub program_accepted : SpellProgram program_bytes procs
   pub few_terms : HaveFewTerms file
+  pub room : HaveRoom file procs
   pub rules_calm : ReadFails reads rules → ⊥
   pub program_calm : ReadFails reads program → ⊥
   pub sink_calm : WriteFails writes → ⊥

@@ -8,13 +8,13 @@ use Rattle.rh_top.specs.declared.status.Status.TheVariants.{Done, WriteFault}
 use Rattle.rh_top.specs.Call.{Reads, Writes, WriteFails, Wrote, WroteNothing}
 use Rattle.rh_top.specs.Files.{AcceptsRules, AcceptsProgram}
 use Rattle.rh_top.specs.Result.{IsResult}
-use Rattle.rh_top.specs.Steps.{HaveFewTerms, RefusesRules, RefusesProgram, RefusesTerms}
+use Rattle.rh_top.specs.Steps.{HaveFewTerms, HaveRoom, RefusesCounts, RefusesProgram, RefusesRules}
 
 -- a step refuses, and those before it accepted
 pub data IsRefused (reads : Reads) (rules program : List ℕ) (status : Status) : Type 0 where
   at_rules : RefusesRules reads rules status → IsRefused reads rules program status
   at_program : (file : Rules) → AcceptsRules reads rules file → RefusesProgram reads program status → IsRefused reads rules program status
-  at_terms : (file : Rules) (procs : List Proc) → AcceptsRules reads rules file → AcceptsProgram reads program procs → RefusesTerms file status → IsRefused reads rules program status
+  at_counts : (file : Rules) (procs : List Proc) → AcceptsRules reads rules file → AcceptsProgram reads program procs → RefusesCounts file procs status → IsRefused reads rules program status
 
 -- all steps accepted, and this is the output
 pub record IsMade (reads : Reads) (rules program text : List ℕ) : Type 0 where
@@ -23,6 +23,7 @@ pub record IsMade (reads : Reads) (rules program text : List ℕ) : Type 0 where
   pub rules_read : AcceptsRules reads rules file
   pub program_read : AcceptsProgram reads program procs
   pub few_terms : HaveFewTerms file
+  pub room : HaveRoom file procs
   pub result : IsResult file procs text
 
 abbrev pub Ends : Reads → Writes → List ℕ → List ℕ → Status → Type 0

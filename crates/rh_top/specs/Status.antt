@@ -4,7 +4,7 @@ use Rattle.std.specs.Fmt.{decimal}
 use Rattle.rh_top.specs.declared.status.Part.{Part}
 use Rattle.rh_top.specs.declared.status.Part.TheVariants.{Rules, Program}
 use Rattle.rh_top.specs.declared.status.Large.{Large}
-use Rattle.rh_top.specs.declared.status.Large.TheVariants.{Terms}
+use Rattle.rh_top.specs.declared.status.Large.TheVariants.{Facts, Terms, Words}
 use Rattle.rh_top.specs.declared.status.Status.{Status}
 use Rattle.rh_top.specs.declared.status.Status.TheVariants.{Done, ReadFault, TooLarge, WriteFault, NoMemory, Unbuilt}
 
@@ -22,6 +22,8 @@ part_name Program = codes "program"
 
 abbrev pub large_text : Large → List ℕ
 large_text (Terms rule count) = decimal count ++ codes " terms at rule " ++ decimal rule
+large_text (Facts proc count) = decimal count ++ codes " facts at procedure " ++ decimal proc
+large_text (Words count) = decimal count ++ codes " words"
 
 -- what a refusal says, without the program's name
 abbrev pub reason_of : Status → List ℕ

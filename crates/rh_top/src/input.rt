@@ -1,25 +1,21 @@
 //! The two files, from the shelf to what they are texts of.
-ghost use Rattle.std.specs.Prelude.{ℕ, ◌≡◌, ◌<◌, ◌≤◌, true, List, length, IfOk, IfErr, IfSome};
+ghost use Rattle.std.specs.Prelude.{ℕ, ◌≡◌, ◌<◌, ◌≤◌, List, length, IfOk, IfErr, IfSome};
 ghost use Rattle.rh_outside.specs.Faults.{Rises};
-ghost use Rattle.rh_rule_source.specs.declared.source.SourceFile.{SourceFile};
-ghost use Rattle.rh_rule_source.specs.Spelling.{Spells};
-ghost use Rattle.rh_top.specs.Files.{AreOtherRules, IsBuiltProgram, IsBuiltRules, IsOtherProgram, most_bytes};
-ghost use Rattle.rh_top.specs.Stage.{is_built_file, is_built_program};
+ghost use Rattle.rh_top.specs.Files.{SpellNoProgram, SpellNoRules, SpellProgram, SpellRules, most_bytes};
 ghost use Rattle.rh_top.specs.Steps.{RefusesFile, of_program, of_rules, part_number};
 
-use crate::stage::{is_built_file, is_built_program};
 use crate::status::{Part, Status};
 use rh_il::Program;
 use rh_il_text::{ReadFault, read_program};
 use rh_outside::{ReadError, Shelf, read_whole};
 use rh_rule::RuleFile;
-use rh_rule_text::{RulesFault, has_header, read_rules};
+use rh_rule_text::{RulesFault, read_rules};
 use std::alloc::Global;
 
 /// The most bytes of a file.
-const MOST_BYTES: usize = 65536;
+const MOST_BYTES: usize = 1048576;
 
-/// The status of a file that is not accepted.
+/// The status of a file that is a text of nothing.
 fn unbuilt(part: Part) -> Status
     ensures { result ≡ Status.Unbuilt (part_number part) }
 {
@@ -68,53 +64,26 @@ fn of_program(fault: ReadFault) -> Status
     }
 }
 
-/// Whether the text of a rule file begins with the header.
-fn is_headed(alloc: Global, bytes: &[u8]) -> Result<bool, Status>
-    requires { length bytes.now ≤ most_bytes }
-    ensures headed { IfOk result (λ headed. (source : SourceFile) → Spells bytes.now source → headed ≡ source.headed) }
-    ensures refused { IfErr result (RefusesFile Part.Rules ⊥ (AreOtherRules bytes.now)) }
-{
-    match has_header(alloc, bytes) {
-        Ok(headed) => Ok(headed),
-        Err(fault) => Err(of_rules(fault)),
-    }
-}
-
 /// The rule file of a text.
-fn built_rules(alloc: Global, bytes: &[u8]) -> Result<RuleFile, Status>
+fn spelled_rules(alloc: Global, bytes: &[u8]) -> Result<RuleFile, Status>
     requires { length bytes.now ≤ most_bytes }
-    ensures built { IfOk result (IsBuiltRules bytes.now) }
-    ensures refused { IfErr result (RefusesFile Part.Rules ⊥ (AreOtherRules bytes.now)) }
+    ensures spelled { IfOk result (SpellRules bytes.now) }
+    ensures refused { IfErr result (RefusesFile Part.Rules ⊥ (SpellNoRules bytes.now)) }
 {
     match read_rules(alloc, bytes) {
-        Ok(file) => {
-            if is_headed(alloc, bytes)? {
-                return Err(Status::Unbuilt(1));
-            }
-            if is_built_file(&file) {
-                Ok(file)
-            } else {
-                Err(Status::Unbuilt(1))
-            }
-        }
+        Ok(file) => Ok(file),
         Err(fault) => Err(of_rules(fault)),
     }
 }
 
 /// The program of a text.
-fn built_program(alloc: Global, bytes: &[u8]) -> Result<Program, Status>
+fn spelled_program(alloc: Global, bytes: &[u8]) -> Result<Program, Status>
     requires { length bytes.now ≤ most_bytes }
-    ensures built { IfOk result (IsBuiltProgram bytes.now) }
-    ensures refused { IfErr result (RefusesFile Part.Program ⊥ (IsOtherProgram bytes.now)) }
+    ensures spelled { IfOk result (SpellProgram bytes.now) }
+    ensures refused { IfErr result (RefusesFile Part.Program ⊥ (SpellNoProgram bytes.now)) }
 {
     match read_program(alloc, bytes) {
-        Ok(program) => {
-            if is_built_program(&program) {
-                Ok(program)
-            } else {
-                Err(Status::Unbuilt(2))
-            }
-        }
+        Ok(program) => Ok(program),
         Err(fault) => Err(of_program(fault)),
     }
 }
@@ -125,14 +94,13 @@ pub(crate) fn rules_in<S: Shelf>(
     shelf: &mut S,
     name: &str,
 ) -> Result<RuleFile, Status>
-    ensures read { IfOk result (λ file. IfSome (S.holds shelf.old name.now) (λ bytes. IsBuiltRules bytes file)) }
-    ensures built { IfOk result (λ file. is_built_file file ≡ true) }
-    ensures refused { IfErr result (RefusesFile Part.Rules (Rises (S.faults shelf.old name.now) (S.faults shelf.new name.now)) (IfSome (S.holds shelf.old name.now) AreOtherRules)) }
+    ensures read { IfOk result (λ file. IfSome (S.holds shelf.old name.now) (λ bytes. SpellRules bytes file)) }
+    ensures refused { IfErr result (RefusesFile Part.Rules (Rises (S.faults shelf.old name.now) (S.faults shelf.new name.now)) (IfSome (S.holds shelf.old name.now) SpellNoRules)) }
     ensures never_falls { (other : List ℕ) → S.faults shelf.old other ≤ S.faults shelf.new other }
     ensures unchanged { (other : List ℕ) → S.holds shelf.new other ≡ S.holds shelf.old other }
 {
     let bytes = read_file(alloc, shelf, name, Part::Rules)?;
-    built_rules(alloc, bytes.as_slice())
+    spelled_rules(alloc, bytes.as_slice())
 }
 
 /// The program in a file.
@@ -141,10 +109,9 @@ pub(crate) fn program_in<S: Shelf>(
     shelf: &mut S,
     name: &str,
 ) -> Result<Program, Status>
-    ensures read { IfOk result (λ program. IfSome (S.holds shelf.old name.now) (λ bytes. IsBuiltProgram bytes program)) }
-    ensures built { IfOk result (λ program. is_built_program program ≡ true) }
-    ensures refused { IfErr result (RefusesFile Part.Program (Rises (S.faults shelf.old name.now) (S.faults shelf.new name.now)) (IfSome (S.holds shelf.old name.now) IsOtherProgram)) }
+    ensures read { IfOk result (λ program. IfSome (S.holds shelf.old name.now) (λ bytes. SpellProgram bytes program)) }
+    ensures refused { IfErr result (RefusesFile Part.Program (Rises (S.faults shelf.old name.now) (S.faults shelf.new name.now)) (IfSome (S.holds shelf.old name.now) SpellNoProgram)) }
 {
     let bytes = read_file(alloc, shelf, name, Part::Program)?;
-    built_program(alloc, bytes.as_slice())
+    spelled_program(alloc, bytes.as_slice())
 }

@@ -17,6 +17,10 @@ pub enum Part {
 pub enum Large {
     /// An obligation of this rule, the first such, has so many terms.
     Terms { rule: u32, count: u64 },
+    /// This procedure, the first such, has so many facts.
+    Facts { proc: u32, count: u128 },
+    /// The edges of all procedures have so many words of facts.
+    Words { count: u64 },
 }
 
 /// How a call ends.
@@ -32,7 +36,7 @@ pub enum Status {
     WriteFault(u64),
     /// There was no memory. Nothing was written.
     NoMemory,
-    /// What is asked for is not built: by the words (0), the rule file (1) or the program (2).
+    /// The words are not those of `opt` (0), or a file is a text of no rule file (1) or of no program (2).
     Unbuilt(u32),
 }
 
@@ -73,8 +77,11 @@ impl fmt::Display for Large {
     ghost output = { λ large. Some (large_text large) };
 
     fn fmt<W: fmt::Write>(&self, f: &mut fmt::Formatter<W>) -> fmt::Result {
-        let Large::Terms { rule, count } = *self;
-        write!(f, "{count} terms at rule {rule}")
+        match *self {
+            Large::Terms { rule, count } => write!(f, "{count} terms at rule {rule}"),
+            Large::Facts { proc, count } => write!(f, "{count} facts at procedure {proc}"),
+            Large::Words { count } => write!(f, "{count} words"),
+        }
     }
 }
 

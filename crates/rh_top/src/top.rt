@@ -1,25 +1,37 @@
 //! The top call.
-ghost use Rattle.std.specs.Prelude.{ℕ, ◌≡◌, List, IfNone, IfSome};
+ghost use Rattle.std.specs.Prelude.{ℕ, ◌≡◌, ◌<◌, ◌≤◌, List, IfNone, IfSome};
 ghost use Rattle.rh_args.specs.Forms.{texts};
 ghost use Rattle.rh_top.specs.declared.status.Status.TheVariants.{Unbuilt};
 ghost use Rattle.rh_top.specs.Complete.{IsDoneOrNothing, IsGood};
 ghost use Rattle.rh_top.specs.Ends.{Ends};
 ghost use Rattle.rh_top.specs.Files.{IsOpt};
 
-use crate::opt::opt;
+use crate::opt::{OptWords, opt};
 use crate::status::Status;
 use rh_args::{Command, read_words};
 use rh_outside::{Gate, Shelf, Sink};
 use std::alloc::Global;
 use std::thread::Threads;
 
-/// The names of the two files, where the words are `opt RULES PROG`.
-fn opt_files(words: &[String]) -> Option<(&str, &str)>
-    ensures found { IfSome result (λ names. IsOpt (texts words.now) names.0.now names.1.now) }
-    ensures other { IfNone result ((rules program : List ℕ) → IsOpt (texts words.now) rules program → ⊥) }
+/// What the words say, where they are those of `opt`.
+fn opt_words(words: &[String]) -> Option<OptWords<'_>>
+    ensures found { IfSome result (λ opt. IsOpt (texts words.now) opt.workers opt.rules.now opt.program.now) }
+    ensures some { IfSome result (λ opt. 0 < opt.workers) }
+    ensures few { IfSome result (λ opt. opt.workers ≤ 16) }
+    ensures other { IfNone result ((workers : ℕ) (rules program : List ℕ) → IsOpt (texts words.now) workers rules program → ⊥) }
 {
     match read_words(words) {
-        Ok(Command::Opt { rules, program, .. }) if words.len() == 3 => Some((rules, program)),
+        Ok(
+            Command::Opt {
+                workers,
+                rules,
+                program,
+            },
+        ) => Some(OptWords {
+            workers,
+            rules,
+            program,
+        }),
         _ => None,
     }
 }
@@ -27,30 +39,30 @@ fn opt_files(words: &[String]) -> Option<(&str, &str)>
 /// Does what a command line says: `words` are those after the program's name. It reads from the shelf
 /// under the names that the words give, and writes to the sink.
 ///
-/// At this stage the words are `opt RULES PROG`, and it runs on one thread: the runtime and the gate are
-/// not asked.
+/// The words are `opt RULES PROG` or `opt --workers=N RULES PROG`. Each worker asks the gate before each of its
+/// turns.
 pub fn rhodium<R: Threads + Sync, S: Shelf, K: Sink, G: Gate + Sync>(
-    _rt: &R,
+    rt: &R,
     alloc: Global,
     words: &[String],
     shelf: &mut S,
     out: &mut K,
-    _gate: &G,
+    gate: &G,
 ) -> Status
-    ensures opt { (rules program : List ℕ) → IsOpt (texts words.now) rules program
+    ensures opt { (workers : ℕ) (rules program : List ℕ) → IsOpt (texts words.now) workers rules program
         → Ends (record { holds = S.holds shelf.old; faults_before = S.faults shelf.old; faults_after = S.faults shelf.new })
         (record { written_before = K.written out.old; written_after = K.written out.new; sunk_before = K.faults out.old; sunk_after = K.faults out.new })
         rules program result }
-    ensures complete { (rules program : List ℕ) → IsOpt (texts words.now) rules program
+    ensures complete { (workers : ℕ) (rules program : List ℕ) → IsOpt (texts words.now) workers rules program
         → IsGood (record { holds = S.holds shelf.old; faults_before = S.faults shelf.old; faults_after = S.faults shelf.new })
         (record { written_before = K.written out.old; written_after = K.written out.new; sunk_before = K.faults out.old; sunk_after = K.faults out.new })
         rules program
         → IsDoneOrNothing (record { written_before = K.written out.old; written_after = K.written out.new; sunk_before = K.faults out.old; sunk_after = K.faults out.new }) result }
-    ensures unbuilt { ((rules program : List ℕ) → IsOpt (texts words.now) rules program → ⊥) → result ≡ Unbuilt 0 }
-    ensures unwritten { ((rules program : List ℕ) → IsOpt (texts words.now) rules program → ⊥) → K.written out.new ≡ K.written out.old }
+    ensures unbuilt { ((workers : ℕ) (rules program : List ℕ) → IsOpt (texts words.now) workers rules program → ⊥) → result ≡ Unbuilt 0 }
+    ensures unwritten { ((workers : ℕ) (rules program : List ℕ) → IsOpt (texts words.now) workers rules program → ⊥) → K.written out.new ≡ K.written out.old }
 {
-    match opt_files(words) {
-        Some((rules, program)) => opt(alloc, rules, program, shelf, out),
+    match opt_words(words) {
+        Some(command) => opt(rt, alloc, command, shelf, out, gate),
         None => Status::Unbuilt(0),
     }
 }

@@ -1,8 +1,8 @@
 -- Looking for the first rule that applies, rule by rule.
-use Rattle.std.proofs.Common.{ℕ, ◌≡◌, ◌+◌, ◌<◌, Bool, true, false, ◌&&◌, List, ◌∷◌, map, length, drop, get_or, Option, Some, None, refl, ap, sym, ◌∙◌}
-use Rattle.std.proofs.lemmas.List.{drop_more}
-use Rattle.std.specs.List.{find, flat_map, list_all}
-use Rattle.std.specs.Option.{option_map, option_map_or, option_or}
+use Rattle.std.proofs.Common.{ℕ, zero, suc, ◌≡◌, ◌+◌, ◌<◌, ◌≤◌, ◌&&◌, List, [], ◌∷◌, length, drop, Option, Some, None, unwrap_or, refl, ap, sym, ◌∙◌, arith}
+use Rattle.std.proofs.Math.Seq.{drop-nil}
+use Rattle.std.specs.List.{find, list_all}
+use Rattle.std.specs.Option.{option_and_then, option_map, option_map_or, option_or}
 use Rattle.std.specs.Prelude.{slice_get}
 use Rattle.rh_il.specs.declared.program.Node.TheVariants.{At}
 use Rattle.rh_il.specs.declared.program.Proc.{Proc}
@@ -14,96 +14,77 @@ use Rattle.rh_rule.specs.declared.rule.Ruling.{Ruling}
 use Rattle.rh_rule.specs.declared.rule.Ruling.TheVariants.{Admitted}
 use Rattle.rh_domain.specs.Binding.{Binding, bindings}
 use Rattle.rh_domain.specs.Facts.{Known}
-use Rattle.rh_ground.specs.Instance.{fact_under, is_conclusion_in_domain, is_fact_in_domain, side_holds}
-use Rattle.rh_ground.specs.Match.{matches, template_under}
-use Rattle.rh_ground.specs.Rows.{edges_before, on_edges, premises_at}
-use Rattle.rh_ground.proofs.Searching.{find_append, find_map, find_same}
-use Rattle.rh_transform.specs.Bare.{IsBare}
-use Rattle.rh_transform.specs.Rewritten.{Candidate, candidates_of, candidates, is_applicable, first_applicable, rewritten_statement, template_of}
+use Rattle.rh_ground.specs.Instance.{is_instance}
+use Rattle.rh_ground.specs.Match.{template_under}
+use Rattle.rh_ground.specs.Rows.{premises_at}
+use Rattle.rh_ground.proofs.FindLists.{find_append, find_map}
+use Rattle.rh_transform.specs.Rewritten.{Candidate, candidates, candidates_of, is_applicable, template_by, template_of}
 
-and_true : (b : Bool) → (b && true) ≡ b
-and_true true = refl
-and_true false = refl
+mapped_or : {X Y : Type 0} (f : X → Y) (a b : Option X) → option_map f (option_or a b) ≡ option_or (option_map f a) (option_map f b)
+mapped_or f None b = refl
+mapped_or f (Some x) b = refl
 
-all_true : (m n s f c k : Bool) → m ≡ n → s ≡ true → f ≡ true → c ≡ true → k ≡ true → ((m && (s && (f && c))) && k) ≡ n
-all_true m n s f c k is_m is_s is_f is_c is_k =
-    let inner : (s && (f && c)) ≡ true = ap (λ b. b && (f && c)) is_s ∙ ap (λ b. b && c) is_f ∙ is_c in
-    ap (λ t. (m && t) && k) inner ∙ ap (λ t. (m && true) && t) is_k ∙ and_true (m && true) ∙ and_true m ∙ is_m
-
-pub mapped_twice : {X Y Z : Type 0} (f : X → Y) (g : Y → Z) (found : Option X) → option_map (λ x. g (f x)) found ≡ option_map g (option_map f found)
+mapped_twice : {X Y Z : Type 0} (f : X → Y) (g : Y → Z) (found : Option X) → option_map (λ x. g (f x)) found ≡ option_map g (option_map f found)
 mapped_twice f g None = refl
 mapped_twice f g (Some x) = refl
 
-module _ (known : Known) (place : ℕ) (proc : Proc) (number : ℕ) (stmt : Stmt) (read : slice_get proc.body number ≡ Some stmt) where
-  -- a rule that rests on nothing applies where its pattern is the statement
-  applies_by : (rule : Rule) (template : Form) (binding : Binding) → IsBare rule → rule.conclusion ≡ Transform template
-      → is_applicable known place proc number (record { rule = rule; template = template; binding = binding }) ≡ matches binding rule.pattern stmt
-  applies_by rule template binding bare is =
-      all_true (option_map_or (matches binding rule.pattern) (slice_get proc.body number) false) (matches binding rule.pattern stmt)
-      (list_all (side_holds binding) rule.sides) (list_all (is_fact_in_domain proc) rule.premises) (is_conclusion_in_domain proc rule.conclusion)
-      (list_all known (premises_at place proc rule binding (At number)))
-      (ap (λ s. option_map_or (matches binding rule.pattern) s false) read)
-      (ap (list_all (side_holds binding)) bare.sides)
-      (ap (list_all (is_fact_in_domain proc)) bare.premises)
-      (ap (is_conclusion_in_domain proc) is)
-      (ap (λ ps. list_all known (flat_map (λ premise. on_edges place (edges_before proc (At number)) (fact_under binding premise)) ps)) bare.premises)
+pub mapped_with : {X Y : Type 0} (f : X → Y) (found : Option X) (otherwise : Y) → unwrap_or (option_map f found) otherwise ≡ option_map_or f found otherwise
+mapped_with f None otherwise = refl
+mapped_with f (Some x) otherwise = refl
 
-  abbrev candidate_by : Rule → Form → Binding → Candidate
-  candidate_by rule template binding = record { rule = rule; template = template; binding = binding }
+module _ (known : Known) (place : ℕ) (proc : Proc) (number : ℕ) (stmt : Stmt) where
+  abbrev pub made : Candidate → Stmt
+  made candidate = template_under candidate.binding candidate.template stmt
 
-  -- the first applicable candidate of such a rule is the first binding under which the pattern is the statement
-  pub template_by : (rule : Rule) (template : Form) (found : Option Binding) → IsBare rule → rule.conclusion ≡ Transform template
-      → found ≡ find (λ binding. matches binding rule.pattern stmt) (bindings proc rule.params)
-      → option_map (λ binding. template_under binding template stmt) found ≡ template_of known place proc number stmt rule Admitted
-  template_by rule template found bare is found_is =
-      let first : option_map (candidate_by rule template) found ≡ find (is_applicable known place proc number) (map (candidate_by rule template) (bindings proc rule.params)) =
-      ap (option_map (candidate_by rule template)) (found_is ∙ find_same (λ binding. matches binding rule.pattern stmt) (λ binding. is_applicable known place proc number (candidate_by rule template binding)) (bindings proc rule.params) (λ binding. sym (applies_by rule template binding bare is)))
-      ∙ sym (find_map (is_applicable known place proc number) (candidate_by rule template) (bindings proc rule.params)) in
-      mapped_twice (candidate_by rule template) (λ candidate. template_under candidate.binding candidate.template stmt) found
-      ∙ ap (option_map (λ candidate. template_under candidate.binding candidate.template stmt)) first
-      ∙ ap (λ conclusion. option_map (λ candidate. template_under candidate.binding candidate.template stmt) (find (is_applicable known place proc number) (candidates_of proc rule Admitted conclusion))) (sym is)
+  -- the template of the first applicable candidate of the rules from a number on
+  abbrev pub first_from : List Rule → List Ruling → ℕ → Option Stmt
+  first_from rules rulings at = option_map made (find (is_applicable known place proc number) (candidates proc (drop at rules) (drop at rulings)))
 
--- no rule before a number applied
-abbrev pub none_before : Known → List Rule → List Ruling → ℕ → Proc → ℕ → ℕ → Type 0
-none_before known rules rulings place proc number k =
-    first_applicable known rules rulings place proc number ≡ find (is_applicable known place proc number) (candidates proc (drop k rules) (drop k rulings))
+  no_rulings : (rules : List Rule) (at : ℕ) → first_from rules [] at ≡ None
+  no_rulings rules at =
+      ap (λ rs. option_map made (find (is_applicable known place proc number) (candidates proc (drop at rules) rs))) (drop-nil {A = Ruling} at)
+      ∙ elim (drop at rules) as (λ rs. option_map made (find (is_applicable known place proc number) (candidates proc rs [])) ≡ None) [ [] ↦ refl | rule ∷ others ↦ refl ]
 
-found_none : {X Y : Type 0} (f : X → Y) (found : Option X) → option_map f found ≡ None → found ≡ None
-found_none f None is = refl
-found_none f (Some x) is = absurd cc
+  abbrev template : List Rule → List Ruling → ℕ → Option Stmt
+  template rules rulings at = template_by known rules rulings place proc number stmt at
 
-first_made : {X Y : Type 0} (f : X → Y) (found others : Option X) (y otherwise : Y) → option_map f found ≡ Some y → option_map_or f (option_or found others) otherwise ≡ y
-first_made f None others y otherwise is = absurd cc
-first_made f (Some x) others y otherwise is = cc
+  not_ruled : (rule : Option Rule) → option_or (option_and_then (λ r. option_and_then (template_of known place proc number stmt r) None) rule) None ≡ None
+  not_ruled None = refl
+  not_ruled (Some rule) = refl
 
--- the candidates of one more rule come before those of the rules after it
-one_rule : (known : Known) (rules : List Rule) (rulings : List Ruling) (place : ℕ) (proc : Proc) (number k : ℕ) (rule : Rule) (ruling otherwise : Ruling)
-    → k < length rules → k < length rulings → rule ≡ get_or rules k rule → ruling ≡ get_or rulings k otherwise → none_before known rules rulings place proc number k
-    → first_applicable known rules rulings place proc number
-    ≡ option_or (find (is_applicable known place proc number) (candidates_of proc rule ruling rule.conclusion)) (find (is_applicable known place proc number) (candidates proc (drop (k + 1) rules) (drop (k + 1) rulings)))
-one_rule known rules rulings place proc number k rule ruling otherwise in_rules in_rulings rule_is ruling_is before =
-    let rules_are : drop k rules ≡ rule ∷ drop (k + 1) rules = drop_more rules k rule in_rules ∙ ap (λ r. r ∷ drop (k + 1) rules) (sym rule_is) in
-    let rulings_are : drop k rulings ≡ ruling ∷ drop (k + 1) rulings = drop_more rulings k otherwise in_rulings ∙ ap (λ r. r ∷ drop (k + 1) rulings) (sym ruling_is) in
-    before ∙ ap (λ rs. find (is_applicable known place proc number) (candidates proc rs (drop k rulings))) rules_are
-    ∙ ap (λ rs. find (is_applicable known place proc number) (candidates proc (rule ∷ drop (k + 1) rules) rs)) rulings_are
-    ∙ find_append (is_applicable known place proc number) (candidates_of proc rule ruling rule.conclusion) (candidates proc (drop (k + 1) rules) (drop (k + 1) rulings))
+  -- that of the rule with the number, and otherwise of those after it
+  pub from_next : (rules : List Rule) (rulings : List Ruling) (at : ℕ) → at < length rules
+      → first_from rules rulings at ≡ option_or (template_by known rules rulings place proc number stmt at) (first_from rules rulings (at + 1))
+  from_next [] rulings at below = absurd (omega (arith, below))
+  from_next (rule ∷ rules) [] at below =
+      no_rulings (rule ∷ rules) at
+      ∙ sym (ap (option_or (template (rule ∷ rules) [] at)) (no_rulings (rule ∷ rules) (at + 1)) ∙ not_ruled (slice_get (rule ∷ rules) at))
+  from_next (rule ∷ rules) (ruling ∷ rulings) zero below =
+      ap (option_map made) (find_append (is_applicable known place proc number) (candidates_of proc rule ruling rule.conclusion) (candidates proc rules rulings))
+      ∙ mapped_or made (find (is_applicable known place proc number) (candidates_of proc rule ruling rule.conclusion)) (find (is_applicable known place proc number) (candidates proc rules rulings))
+  from_next (rule ∷ rules) (ruling ∷ rulings) (suc at) below =
+      let next : suc (at + 1) ≡ suc at + 1 = omega arith in
+      from_next rules rulings at (omega (arith, below))
+      ∙ ap (λ n. option_or (template rules rulings at) (first_from (rule ∷ rules) (ruling ∷ rulings) n)) next
 
--- a rule that doesn't apply
-pub passed_over : (known : Known) (rules : List Rule) (rulings : List Ruling) (place : ℕ) (proc : Proc) (number k : ℕ) (rule : Rule) (ruling otherwise : Ruling) (stmt : Stmt)
-    → k < length rules → k < length rulings → rule ≡ get_or rules k rule → ruling ≡ get_or rulings k otherwise → none_before known rules rulings place proc number k
-    → None ≡ template_of known place proc number stmt rule ruling → none_before known rules rulings place proc number (k + 1)
-passed_over known rules rulings place proc number k rule ruling otherwise stmt in_rules in_rulings rule_is ruling_is before none =
-    let fails : find (is_applicable known place proc number) (candidates_of proc rule ruling rule.conclusion) ≡ None =
-    found_none (λ candidate. template_under candidate.binding candidate.template stmt) (find (is_applicable known place proc number) (candidates_of proc rule ruling rule.conclusion)) (sym none) in
-    one_rule known rules rulings place proc number k rule ruling otherwise in_rules in_rulings rule_is ruling_is before
-    ∙ ap (λ first. option_or first (find (is_applicable known place proc number) (candidates proc (drop (k + 1) rules) (drop (k + 1) rulings)))) fails
+  -- no rule is left
+  pub none_left : (rules : List Rule) (rulings : List Ruling) (at : ℕ) → length rules ≤ at → first_from rules rulings at ≡ None
+  none_left [] rulings zero past = refl
+  none_left [] rulings (suc at) past = refl
+  none_left (rule ∷ rules) rulings zero past = absurd (omega (arith, past))
+  none_left (rule ∷ rules) [] (suc at) past = no_rulings (rule ∷ rules) (suc at)
+  none_left (rule ∷ rules) (ruling ∷ rulings) (suc at) past = none_left rules rulings at (omega (arith, past))
 
--- the first rule that applies
-pub replaced_by : (known : Known) (rules : List Rule) (rulings : List Ruling) (place : ℕ) (proc : Proc) (number k : ℕ) (rule : Rule) (ruling otherwise : Ruling) (stmt new : Stmt)
-    → k < length rules → k < length rulings → rule ≡ get_or rules k rule → ruling ≡ get_or rulings k otherwise → none_before known rules rulings place proc number k
-    → Some new ≡ template_of known place proc number stmt rule ruling → new ≡ rewritten_statement known rules rulings place proc number stmt
-replaced_by known rules rulings place proc number k rule ruling otherwise stmt new in_rules in_rulings rule_is ruling_is before one =
-    sym (ap (λ first. option_map_or (λ candidate. template_under candidate.binding candidate.template stmt) first stmt)
-    (one_rule known rules rulings place proc number k rule ruling otherwise in_rules in_rulings rule_is ruling_is before)
-    ∙ first_made (λ candidate. template_under candidate.binding candidate.template stmt) (find (is_applicable known place proc number) (candidates_of proc rule ruling rule.conclusion))
-    (find (is_applicable known place proc number) (candidates proc (drop (k + 1) rules) (drop (k + 1) rulings))) new stmt (sym one))
+  -- the template under the first binding under which a proved rule applies
+  pub found_by : (rules : List Rule) (rulings : List Ruling) (at : ℕ) (rule : Rule) (form : Form) (found : Option Binding)
+      → slice_get rules at ≡ Some rule → slice_get rulings at ≡ Some Admitted → rule.conclusion ≡ Transform form
+      → found ≡ find (λ binding. is_instance proc rule binding (At number) && list_all known (premises_at place proc rule binding (At number))) (bindings proc rule.params)
+      → option_map (λ binding. template_under binding form stmt) found ≡ template_by known rules rulings place proc number stmt at
+  found_by rules rulings at rule form found read ruled transforms is =
+      let candidate : Binding → Candidate = λ binding. record { rule = rule; template = form; binding = binding } in
+      mapped_twice candidate made found
+      ∙ ap (λ o. option_map made (option_map candidate o)) is
+      ∙ ap (option_map made) (sym (find_map (is_applicable known place proc number) candidate (bindings proc rule.params)))
+      ∙ ap (λ conclusion. option_map made (find (is_applicable known place proc number) (candidates_of proc rule Admitted conclusion))) (sym transforms)
+      ∙ ap (option_and_then (template_of known place proc number stmt rule)) (sym ruled)
+      ∙ ap (option_and_then (λ r. option_and_then (template_of known place proc number stmt r) (slice_get rulings at))) (sym read)

@@ -1,16 +1,10 @@
--- The statements of the rewritten program: where they are from, and where they lead to.
-use Rattle.std.proofs.Common.{ℕ, suc, ◌≡◌, true, false, List, [], ◌∷◌, Option, Some, None, inl, inr, refl, ap, sym, ◌∙◌, subst}
-use Rattle.std.specs.Option.{option_map, option_map_or, option_and_then}
+-- Where the template that takes the place of a statement is from.
+use Rattle.std.proofs.Common.{ℕ, suc, ◌≡◌, true, List, [], ◌∷◌, Some, inl, inr, refl, sym, subst}
+use Rattle.std.specs.List.{list_all}
 use Rattle.std.specs.Prelude.{slice_get}
 use Rattle.std.proofs.lemmas.Bool.{and_parts}
-use Rattle.rh_list.specs.Each.{Each}
-use Rattle.rh_il.specs.declared.program.Node.{Node}
-use Rattle.rh_il.specs.declared.program.Node.TheVariants.{Entry, At}
+use Rattle.rh_il.specs.declared.program.Node.TheVariants.{At}
 use Rattle.rh_il.specs.declared.program.Proc.{Proc}
-use Rattle.rh_il.specs.declared.program.Slot.{Slot}
-use Rattle.rh_il.specs.declared.program.Slot.TheVariants.{Out, Then, Else}
-use Rattle.rh_il.specs.declared.program.Stmt.{Stmt}
-use Rattle.rh_il.specs.Flow.{target_in, slot_target}
 use Rattle.rh_rule.specs.declared.rule.Conclusion.{Conclusion}
 use Rattle.rh_rule.specs.declared.rule.Conclusion.TheVariants.{Fact, Transform}
 use Rattle.rh_rule.specs.declared.rule.Rule.{Rule}
@@ -18,12 +12,10 @@ use Rattle.rh_rule.specs.declared.rule.Ruling.{Ruling}
 use Rattle.rh_rule.specs.declared.rule.Ruling.TheVariants.{Admitted, Refused}
 use Rattle.rh_domain.specs.Binding.{bindings}
 use Rattle.rh_domain.specs.Facts.{Known}
-use Rattle.rh_ground.specs.Match.{matches, template_under}
-use Rattle.rh_transform.specs.Rewritten.{Candidate, candidates_of, candidates, is_applicable, first_applicable, rewritten_statement, rewritten_body}
-use Rattle.rh_ground.specs.Template.{IsTemplateOf}
-use Rattle.rh_ground.proofs.Members.{IsItem, item_of_append, item_of_map, found_item, read_all_numbered}
-use Rattle.rh_ground.proofs.Shapes.{shape_of, shape_target, target_by_shape, shape_kept}
-use Rattle.rh_transform.specs.Bare.{IsBare}
+use Rattle.rh_ground.specs.Instance.{is_instance}
+use Rattle.rh_ground.specs.Rows.{premises_at}
+use Rattle.rh_ground.proofs.Members.{IsItem, found_item, item_of_append, item_of_map}
+use Rattle.rh_transform.specs.Rewritten.{Candidate, candidates, candidates_of, first_applicable, is_applicable}
 
 -- where a candidate is from
 pub record IsFrom (proc : Proc) (rules : List Rule) (rulings : List Ruling) (candidate : Candidate) : Type 0 where
@@ -55,53 +47,15 @@ candidate_from proc (rule ∷ rules) (ruling ∷ rulings) candidate there =
       | inr behind ↦ later proc rule rules ruling rulings candidate (candidate_from proc rules rulings candidate behind)
     ]
 
-module _ (rules : List Rule) (rulings : List Ruling) (known : Known) (bare : Each IsBare rules) where
-  -- a candidate's pattern is the statement
-  pub pattern_is : (place : ℕ) (proc : Proc) (number : ℕ) (stmt : Stmt) (candidate : Candidate) → slice_get proc.body number ≡ Some stmt → is_applicable known place proc number candidate ≡ true
-      → matches candidate.binding candidate.rule.pattern stmt ≡ true
-  pattern_is place proc number stmt candidate read applies =
-      ap (λ s. option_map_or (matches candidate.binding candidate.rule.pattern) s false) (sym read) ∙ (and_parts _ _ (and_parts _ _ applies).0).0
+-- an applicable candidate of a proved rule
+pub record IsFirst (proc : Proc) (rules : List Rule) (rulings : List Ruling) (known : Known) (place number : ℕ) (candidate : Candidate) : Type 0 where
+  pub from : IsFrom proc rules rulings candidate
+  pub is_instance : is_instance proc candidate.rule candidate.binding (At number) ≡ true
+  pub premises : list_all known (premises_at place proc candidate.rule candidate.binding (At number)) ≡ true
 
-  -- what the first applicable candidate is known to be
-  pub first_from : (place : ℕ) (proc : Proc) (number : ℕ) (candidate : Candidate) → first_applicable known rules rulings place proc number ≡ Some candidate
-      → IsFrom proc rules rulings candidate × (is_applicable known place proc number candidate ≡ true)
-  first_from place proc number candidate is =
-      let found = found_item (is_applicable known place proc number) candidate (candidates proc rules rulings) is in
-      (candidate_from proc rules rulings candidate found.0, found.1)
-
-  pub fit_of : (proc : Proc) (candidate : Candidate) → IsFrom proc rules rulings candidate → IsTemplateOf candidate.rule.params candidate.rule.pattern candidate.template
-  fit_of proc candidate from = (bare from.number candidate.rule from.rule_at).shaped candidate.template from.transforms
-
-  abbrev pub by_first : Option Candidate → Stmt → Stmt
-  by_first first stmt = option_map_or (λ candidate. template_under candidate.binding candidate.template stmt) first stmt
-
-  shape_by : (place : ℕ) (proc : Proc) (number : ℕ) (stmt : Stmt) (first : Option Candidate) → slice_get proc.body number ≡ Some stmt → first_applicable known rules rulings place proc number ≡ first
-      → shape_of (by_first first stmt) ≡ shape_of stmt
-  shape_by place proc number stmt None read is = refl
-  shape_by place proc number stmt (Some candidate) read is =
-      let from = first_from place proc number candidate is in
-      shape_kept candidate.rule.params candidate.binding candidate.rule.pattern candidate.template stmt (fit_of proc candidate from.0) (pattern_is place proc number stmt candidate read from.1)
-
-  -- the statement that takes the place of another has its shape
-  pub shape_same : (place : ℕ) (proc : Proc) (number : ℕ) (stmt : Stmt) → slice_get proc.body number ≡ Some stmt
-      → shape_of (rewritten_statement known rules rulings place proc number stmt) ≡ shape_of stmt
-  shape_same place proc number stmt read = shape_by place proc number stmt (first_applicable known rules rulings place proc number) read refl
-
-  pub body_at : (place : ℕ) (proc : Proc) (number : ℕ) → slice_get (rewritten_body known rules rulings place proc) number ≡ option_map (rewritten_statement known rules rulings place proc number) (slice_get proc.body number)
-  body_at place proc number = read_all_numbered (rewritten_statement known rules rulings place proc) proc.body number
-
-  target_of : (place : ℕ) (proc : Proc) (number : ℕ) (slot : Slot) (stmt : Option Stmt) → slice_get proc.body number ≡ stmt
-      → option_and_then (λ s. slot_target s number slot) (option_map (rewritten_statement known rules rulings place proc number) stmt) ≡ option_and_then (λ s. slot_target s number slot) stmt
-  target_of place proc number slot None read = refl
-  target_of place proc number slot (Some stmt) read =
-      target_by_shape (rewritten_statement known rules rulings place proc number stmt) number slot
-      ∙ ap (λ shape. shape_target shape number slot) (shape_same place proc number stmt read)
-      ∙ sym (target_by_shape stmt number slot)
-
-  -- an edge enters the statement of the same number
-  pub target_same : (place : ℕ) (proc : Proc) (node : Node) (slot : Slot) → target_in (rewritten_body known rules rulings place proc) node slot ≡ target_in proc.body node slot
-  target_same place proc Entry Out = refl
-  target_same place proc Entry Then = refl
-  target_same place proc Entry Else = refl
-  target_same place proc (At number) slot =
-      ap (option_and_then (λ s. slot_target s number slot)) (body_at place proc number) ∙ target_of place proc number slot (slice_get proc.body number) refl
+pub first_is : (proc : Proc) (rules : List Rule) (rulings : List Ruling) (known : Known) (place number : ℕ) (candidate : Candidate)
+    → first_applicable known rules rulings place proc number ≡ Some candidate → IsFirst proc rules rulings known place number candidate
+first_is proc rules rulings known place number candidate is =
+    let found = found_item (is_applicable known place proc number) candidate (candidates proc rules rulings) is in
+    let parts = and_parts (is_instance proc candidate.rule candidate.binding (At number)) _ found.1 in
+    record { from = candidate_from proc rules rulings candidate found.0; is_instance = parts.0; premises = parts.1 }

@@ -1,10 +1,9 @@
--- Rules of a rule file that transform a statement by itself.
+-- Templates of the rules of a rule file are of the class of their pattern.
 use Rattle.std.proofs.Common.{ℕ, ◌≡◌, true, false, not, List, [], ◌∷◌, Option, Some, None, refl, ap, sym, ◌∙◌}
 use Rattle.std.proofs.lemmas.Bool.{and_parts}
 use Rattle.std.specs.List.{AllByRecursion}
 use Rattle.std.specs.Option.{option_map_or}
 use Rattle.std.specs.Prelude.{slice_get}
-use Rattle.rh_list.specs.Each.{Each}
 use Rattle.rh_rule.specs.declared.rule.Conclusion.TheVariants.{Transform}
 use Rattle.rh_rule.specs.declared.rule.Form.{Form}
 use Rattle.rh_rule.specs.declared.rule.Form.TheVariants.{Entry, Goto, Skip, AnyAssign, Assign, Address, Load, Compute, Write, New, Call, If, Return}
@@ -17,12 +16,9 @@ use Rattle.rh_rule.specs.declared.schema.Param.{Param}
 use Rattle.rh_rule.specs.declared.schema.Schema.{Schema}
 use Rattle.rh_rule.specs.Kinds.{conclusion_has_kinds, form_has_kinds, is_var, is_var_kind}
 use Rattle.rh_rule.specs.Params.{kind_of}
-use Rattle.rh_rule.specs.RuleFiles.{IsRuleFile, RulePassed, Rules}
+use Rattle.rh_rule.specs.RuleFiles.{RulePassed}
 use Rattle.rh_rule.specs.Shapes.{class_eq, class_of, conclusion_has_shape, has_wild, is_statement, may_replace}
-use Rattle.rh_rule.proofs.Passed.{rule_passed}
-use Rattle.rh_ground.specs.Search.{AreVars}
 use Rattle.rh_ground.specs.Template.{IsPlain, IsTame, IsTemplateOf}
-use Rattle.rh_transform.specs.Bare.{IsBare}
 
 kind_is : (kind : Kind) → is_var_kind kind ≡ true → kind ≡ Var
 kind_is Var is = refl
@@ -132,12 +128,3 @@ template_of_rule schemas rule template passed is =
     let statements = and_parts _ _ replaces in
     let made = and_parts _ _ statements.1 in
     template_from rule.params rule.pattern template made.1 statements.0 made.0 kinds.0 (sym (ap (conclusion_has_kinds schemas rule.params) is) ∙ made_kinds)
-
--- the rules of a file over variables, without premises and conditions, transform a statement by itself
-pub bare_rules : (file : Rules) → IsRuleFile file → Each (λ rule. AreVars rule.params) file.rules → Each (λ rule. rule.premises ≡ []) file.rules → Each (λ rule. rule.sides ≡ []) file.rules → Each IsBare file.rules
-bare_rules file is vars premises sides = λ number rule read. record {
-  vars = vars number rule read;
-  premises = premises number rule read;
-  sides = sides number rule read;
-  shaped = λ template transforms. template_of_rule file.schemas rule template (rule_passed file number rule is read) transforms;
-}

@@ -1,7 +1,6 @@
+pub mod FromFiles
 pub mod Candidates
+pub mod Shaped
 pub mod Numbered
 pub mod Passing
-pub mod Fronts
 pub mod Applying
-pub mod Made
-pub mod FromFiles

@@ -23,6 +23,7 @@ use Rattle.rh_rule.specs.declared.rule.Ruling.{Ruling}
 use Rattle.rh_rule.specs.declared.schema.Kind.TheVariants.{Var as AVar}
 use Rattle.rh_rule.specs.declared.schema.Param.{Param}
 use Rattle.rh_rule.specs.Params.{kind_of}
+use Rattle.rh_rule.specs.RuleFiles.{IsRuleFile, Rules}
 use Rattle.rh_domain.specs.Binding.{Binding, FitsBinding, base_under, variable_under}
 use Rattle.rh_domain.specs.Facts.{Known}
 use Rattle.rh_ground.specs.Match.{callee_of, matches, template_under}
@@ -31,9 +32,9 @@ use Rattle.rh_ground.proofs.Fitting.{binding_fits, operand_inside, variable_insi
 use Rattle.rh_ground.proofs.Matched.{matched}
 use Rattle.rh_ground.proofs.Members.{read_all_numbered}
 use Rattle.rh_ground.proofs.Shapes.{Shape, Jumping, Branching, Returning, shape_of}
-use Rattle.rh_transform.specs.Bare.{IsBare}
 use Rattle.rh_transform.specs.Rewritten.{Candidate, first_applicable, rewritten_statement, rewritten_body, rewritten_proc, rewritten}
-use Rattle.rh_transform.proofs.Candidates.{body_at, by_first, first_from, fit_of, pattern_is, shape_same}
+use Rattle.rh_transform.proofs.Candidates.{first_is}
+use Rattle.rh_transform.proofs.Shaped.{body_at, by_first, fit_of, pattern_is, shape_same}
 use Rattle.rh_transform.proofs.Numbered.{changed_all, changed_any, changed_front, changed_size}
 
 -- ---- statements
@@ -136,74 +137,74 @@ same_first : {X : Type 0} (n : ℕ) (found other : ℕ → Option X) → ((k : �
 same_first zero found other same = refl
 same_first (suc n) found other same = ap (λ o. option_or o (found n)) (same_first n found other same) ∙ ap (option_or (first_some n other)) (same n)
 
-module _ (rules : List Rule) (rulings : List Ruling) (known : Known) (bare : Each IsBare rules) where
+module _ (file : Rules) (is_file : IsRuleFile file) (rulings : List Ruling) (known : Known) where
   numbers_by : (place procs : ℕ) (proc : Proc) (number : ℕ) (stmt : Stmt) (first : Option Candidate) → HasNumbers proc → slice_get proc.body number ≡ Some stmt
-      → first_applicable known rules rulings place proc number ≡ first → has_numbers procs (length proc.vars) stmt ≡ true
-      → has_numbers procs (length proc.vars) (by_first rules rulings known bare first stmt) ≡ true
+      → first_applicable known file.rules rulings place proc number ≡ first → has_numbers procs (length proc.vars) stmt ≡ true
+      → has_numbers procs (length proc.vars) (by_first first stmt) ≡ true
   numbers_by place procs proc number stmt None fit read is numbers = numbers
   numbers_by place procs proc number stmt (Some candidate) fit read is numbers =
-      let from = first_from rules rulings known bare place proc number candidate is in
+      let first = first_is proc file.rules rulings known place number candidate is in
       let rule : Rule = candidate.rule in
-      template_numbers procs (length proc.vars) rule.params candidate.binding (binding_fits proc rule.params candidate.binding fit from.0.bound_by) rule.pattern candidate.template stmt
-      (fit_of rules rulings known bare proc candidate from.0) (pattern_is rules rulings known bare place proc number stmt candidate read from.1) numbers
+      template_numbers procs (length proc.vars) rule.params candidate.binding (binding_fits proc rule.params candidate.binding fit first.from.bound_by) rule.pattern candidate.template stmt
+      (fit_of file is_file rulings known proc place number candidate first) (pattern_is file is_file rulings known proc place number stmt candidate read first) numbers
 
   abbrev new_body : ℕ → Proc → List Stmt
-  new_body place proc = rewritten_body known rules rulings place proc
+  new_body place proc = rewritten_body known file.rules rulings place proc
 
   body_size : (place : ℕ) (proc : Proc) → length (new_body place proc) ≡ length proc.body
-  body_size place proc = changed_size (rewritten_statement known rules rulings place proc) 0 proc.body
+  body_size place proc = changed_size (rewritten_statement known file.rules rulings place proc) 0 proc.body
 
   -- a statement that takes the place of another passes its checks
   stmt_kept : (place procs : ℕ) (proc : Proc) (number : ℕ) (stmt : Stmt) → HasNumbers proc → slice_get proc.body number ≡ Some stmt → stmt_fault procs place proc number stmt ≡ None
-      → stmt_fault procs place (rewritten_proc known rules rulings place proc) number (rewritten_statement known rules rulings place proc number stmt) ≡ None
+      → stmt_fault procs place (rewritten_proc known file.rules rulings place proc) number (rewritten_statement known file.rules rulings place proc number stmt) ≡ None
   stmt_kept place procs proc number stmt fit read passed =
-      let new : Stmt = rewritten_statement known rules rulings place proc number stmt in
+      let new : Stmt = rewritten_statement known file.rules rulings place proc number stmt in
       let parts = none_parts (unless (has_numbers procs (length proc.vars) stmt) BadNumber place number) (unless (has_targets (length proc.body) stmt) BadTarget place number) passed in
-      let numbers = numbers_by place procs proc number stmt (first_applicable known rules rulings place proc number) fit read refl (passes (has_numbers procs (length proc.vars) stmt) BadNumber place number parts.0) in
+      let numbers = numbers_by place procs proc number stmt (first_applicable known file.rules rulings place proc number) fit read refl (passes (has_numbers procs (length proc.vars) stmt) BadNumber place number parts.0) in
       let targets : has_targets (length (new_body place proc)) new ≡ true =
       ap (λ n. has_targets n new) (body_size place proc) ∙ targets_by_shape (length proc.body) new
-      ∙ ap (targets_by (length proc.body)) (shape_same rules rulings known bare place proc number stmt read)
+      ∙ ap (targets_by (length proc.body)) (shape_same file is_file rulings known place proc number stmt read)
       ∙ sym (targets_by_shape (length proc.body) stmt) ∙ passes (has_targets (length proc.body) stmt) BadTarget place number parts.1 in
       none_both _ _ (passed_by _ BadNumber place number numbers) (passed_by _ BadTarget place number targets)
 
   item_kept : (place procs : ℕ) (proc : Proc) (number : ℕ) (stmt : Option Stmt) → HasNumbers proc → slice_get proc.body number ≡ stmt → option_and_then (stmt_fault procs place proc number) stmt ≡ None
-      → option_and_then (stmt_fault procs place (rewritten_proc known rules rulings place proc) number) (option_map (rewritten_statement known rules rulings place proc number) stmt) ≡ None
+      → option_and_then (stmt_fault procs place (rewritten_proc known file.rules rulings place proc) number) (option_map (rewritten_statement known file.rules rulings place proc number) stmt) ≡ None
   item_kept place procs proc number None fit read passed = refl
   item_kept place procs proc number (Some stmt) fit read passed = stmt_kept place procs proc number stmt fit read passed
 
   jump_kept : (place : ℕ) (proc : Proc) (number : ℕ) (stmt : Option Stmt) → slice_get proc.body number ≡ stmt
-      → option_map_or is_jump (option_map (rewritten_statement known rules rulings place proc number) stmt) false ≡ option_map_or is_jump stmt false
+      → option_map_or is_jump (option_map (rewritten_statement known file.rules rulings place proc number) stmt) false ≡ option_map_or is_jump stmt false
   jump_kept place proc number None read = refl
   jump_kept place proc number (Some stmt) read =
-      jump_by_shape (rewritten_statement known rules rulings place proc number stmt) ∙ ap jumps_by (shape_same rules rulings known bare place proc number stmt read) ∙ sym (jump_by_shape stmt)
+      jump_by_shape (rewritten_statement known file.rules rulings place proc number stmt) ∙ ap jumps_by (shape_same file is_file rulings known place proc number stmt read) ∙ sym (jump_by_shape stmt)
 
   closed_kept : (place : ℕ) (proc : Proc) → is_closed (new_body place proc) ≡ is_closed proc.body
   closed_kept place proc =
       ap (λ n. option_map_or is_jump (slice_get (new_body place proc) (n - 1)) false) (body_size place proc)
-      ∙ ap (λ o. option_map_or is_jump o false) (body_at rules rulings known bare place proc (length proc.body - 1))
+      ∙ ap (λ o. option_map_or is_jump o false) (body_at file is_file rulings known place proc (length proc.body - 1))
       ∙ jump_kept place proc (length proc.body - 1) (slice_get proc.body (length proc.body - 1)) refl
 
   -- a procedure whose statements are rewritten passes its checks
-  proc_kept : (place procs : ℕ) (proc : Proc) → HasNumbers proc → proc_fault procs place proc ≡ None → proc_fault procs place (rewritten_proc known rules rulings place proc) ≡ None
+  proc_kept : (place procs : ℕ) (proc : Proc) → HasNumbers proc → proc_fault procs place proc ≡ None → proc_fault procs place (rewritten_proc known file.rules rulings place proc) ≡ None
   unfolding proc_fault
   proc_kept place procs proc fit passed =
-      let new : Proc = rewritten_proc known rules rulings place proc in
+      let new : Proc = rewritten_proc known file.rules rulings place proc in
       let before = checks_passed procs place proc passed in
       let few : few_stmts place new ≡ None = ap (λ n. unless (nat_le n 1024) (Limit Stmts) place 0) (body_size place proc) ∙ before.short in
       let items : stmts_pass procs place new ≡ None =
       none_of (length new.body) (fault_at procs place new)
       (λ k below.
-      ap (option_and_then (stmt_fault procs place new k)) (body_at rules rulings known bare place proc k)
+      ap (option_and_then (stmt_fault procs place new k)) (body_at file is_file rulings known place proc k)
       ∙ item_kept place procs proc k (slice_get proc.body k) fit refl (none_at (length proc.body) (fault_at procs place proc) k before.stmts (omega (arith, below, body_size place proc)))) in
       let ended : ends place new ≡ None = ap (λ t. unless t FallsOff place (length new.body)) (closed_kept place proc) ∙ ap (λ n. unless (is_closed proc.body) FallsOff place n) (body_size place proc) ∙ before.closed in
       none_both (some_vars place new) _ before.vars (none_both (new_vars place new) _ before.names (none_both (few_stmts place new) _ few (none_both (stmts_pass procs place new) (ends place new) items ended)))
 
   module _ (procs : List Proc) (program : IsProgram procs) (fit : Each HasNumbers procs) where
     abbrev change : ℕ → Proc → Proc
-    change = rewritten_proc known rules rulings
+    change = rewritten_proc known file.rules rulings
 
     abbrev after : List Proc
-    after = rewritten known rules rulings procs
+    after = rewritten known file.rules rulings procs
 
     size : length after ≡ length procs
     size = changed_size change 0 procs

@@ -4,14 +4,13 @@ use Rattle.rh_list.specs.Each.{Each}
 use Rattle.rh_il.specs.declared.program.Proc.{Proc}
 use Rattle.rh_il.specs.Checks.{IsProgram}
 use Rattle.rh_il.specs.Numbers.{HasNumbers}
-use Rattle.rh_rule.specs.declared.rule.Rule.{Rule}
 use Rattle.rh_rule.specs.declared.rule.Ruling.{Ruling}
+use Rattle.rh_rule.specs.RuleFiles.{IsRuleFile, Rules}
 use Rattle.rh_domain.specs.Facts.{Known}
-use Rattle.rh_transform.specs.Bare.{IsBare}
 use Rattle.rh_transform.specs.Rewritten.{rewritten}
 
 -- the rewritten program passes every check, where the numbers in the program are of 64 bits
 abbrev pub RewrittenPasses : Type 0
 RewrittenPasses =
-    (rules : List Rule) (rulings : List Ruling) (known : Known) (procs : List Proc) → Each IsBare rules → IsProgram procs → Each HasNumbers procs
-    → IsProgram (rewritten known rules rulings procs)
+    (file : Rules) (rulings : List Ruling) (known : Known) (procs : List Proc) → IsRuleFile file → IsProgram procs → Each HasNumbers procs
+    → IsProgram (rewritten known file.rules rulings procs)

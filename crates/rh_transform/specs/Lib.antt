@@ -1,3 +1,2 @@
-pub mod Bare
 pub mod Rewritten
 pub mod Laws

@@ -1,7 +1,7 @@
 -- The program that rules rewrite.
-use Rattle.std.specs.Prelude.{ℕ, Bool, ◌&&◌, List, [], ◌∷◌, ◌++◌, Option, map}
+use Rattle.std.specs.Prelude.{ℕ, Bool, ◌&&◌, List, [], ◌∷◌, ◌++◌, Option, map, slice_get}
 use Rattle.std.specs.List.{list_all, find, enumerate_from}
-use Rattle.std.specs.Option.{option_map, option_map_or}
+use Rattle.std.specs.Option.{option_and_then, option_map, option_map_or}
 use Rattle.rh_il.specs.declared.program.Node.TheVariants.{At}
 use Rattle.rh_il.specs.declared.program.Proc.{Proc}
 use Rattle.rh_il.specs.declared.program.Stmt.{Stmt}
@@ -45,6 +45,11 @@ is_applicable known place proc number candidate =
 abbrev pub template_of : Known → ℕ → Proc → ℕ → Stmt → Rule → Ruling → Option Stmt
 template_of known place proc number stmt rule ruling =
     option_map (λ candidate. template_under candidate.binding candidate.template stmt) (find (is_applicable known place proc number) (candidates_of proc rule ruling rule.conclusion))
+
+-- what the rule with a number makes of it
+abbrev pub template_by : Known → List Rule → List Ruling → ℕ → Proc → ℕ → Stmt → ℕ → Option Stmt
+template_by known rules rulings place proc number stmt at =
+    option_and_then (λ rule. option_and_then (template_of known place proc number stmt rule) (slice_get rulings at)) (slice_get rules at)
 
 -- the first applicable candidate
 abbrev pub first_applicable : Known → List Rule → List Ruling → ℕ → Proc → ℕ → Option Candidate

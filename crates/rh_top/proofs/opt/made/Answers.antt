@@ -1,13 +1,15 @@
 use Rattle.std.proofs.lemmas.Result.{err_from_is_err_and}
-use Rattle.rh_top.proofs.Refusing.{program_refused, terms_refused}
+use Rattle.rh_top.proofs.Refusing.{counts_refused, program_refused}
 use Rattle.rh_top.proofs.opt.made.Goals as goal
 
-pub returns-in_err-read-clause-refused : goal.returns-in_err-read-clause-refused
-returns-in_err-read-clause-refused g c =
-    let told = err_from_is_err_and c.from_residual-in_err-read.result c.from_residual-in_err-read.ensures.1 in
+pub returns-in_err-program-clause-refused : goal.returns-in_err-program-clause-refused
+returns-in_err-program-clause-refused g c =
+    let told = err_from_is_err_and c.from_residual-in_err-program.result c.from_residual-in_err-program.ensures.1 in
+    let program = c.args.words.program.now in
     rw (told.1, told.2)
-    (program_refused _ c.args.rules.now c.args.program.now c.in_ok-file.file c.in_ok-file.ensures.read _ (c.in_ok-file.ensures.unchanged c.args.program.now) _ _ (c.in_ok-file.ensures.never_falls c.args.program.now) c.in_err-read.ensures.refused)
+    (program_refused _ c.args.words.rules.now program c.in_ok-file.file c.in_ok-file.ensures.read _ (c.in_ok-file.ensures.unchanged program) _ _ (c.in_ok-file.ensures.never_falls program) c.in_err-program.ensures.refused)
 
 pub returns-clause-refused : goal.returns-clause-refused
 returns-clause-refused g c =
-    terms_refused _ c.args.rules.now c.args.program.now c.in_ok-file.file c.in_ok-file.ensures.read _ (c.in_ok-file.ensures.unchanged c.args.program.now) c.in_ok-read.read c.in-Err.status c.in_ok-read.ensures.read c.in-Err.ensures.refused
+    let program = c.args.words.program.now in
+    counts_refused _ c.args.words.rules.now program c.in_ok-file.file c.in_ok-file.ensures.read _ (c.in_ok-file.ensures.unchanged program) c.in_ok-program.program c.in-Err.status c.in_ok-program.ensures.read c.in-Err.ensures.refused

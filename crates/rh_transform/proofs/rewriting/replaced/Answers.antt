@@ -1,16 +1,12 @@
-use Rattle.std.proofs.Common.{sym, ◌∙◌, refl, arith, get_or, length, ◌<◌}
-use Rattle.rh_rule.specs.declared.rule.Ruling.TheVariants.{Admitted}
-use Rattle.rh_transform.proofs.Applying.{passed_over, replaced_by}
+use Rattle.std.proofs.Common.{ap, ◌∙◌, unwrap_or}
+use Rattle.rh_rows.specs.Known.{known_in}
+use Rattle.rh_transform.specs.Rewritten.{first_applicable}
+use Rattle.rh_transform.proofs.Applying.{made, mapped_with}
 use Rattle.rh_transform.proofs.rewriting.replaced.Goals as goal
 
-pub returns-in-Some : goal.returns-in-Some
-returns-in-Some c = λ known place number read.
-    let in_rulings : c.loop-number.number < length c.args.rulings.now = omega (arith, c.loop-number-test.true, c.requires.rulings) in
-    replaced_by known c.args.rules.now c.args.rulings.now place c.args.proc.now number c.loop-number.number c.index-rules-number.result (get_or c.args.rulings.now c.loop-number.number Admitted) Admitted c.args.stmt c.in-Some.new
-    c.loop-number-test.true in_rulings c.index-rules-number.is refl (c.loop-number.invariant known place number read) (sym c.in-Some.is ∙ c.in_ok-found.ensures known place number read)
-
-pub loop-number-preserved : goal.loop-number-preserved
-loop-number-preserved c = λ known place number read.
-    let in_rulings : c.loop-number.number < length c.args.rulings.now = omega (arith, c.loop-number-test.true, c.requires.rulings) in
-    passed_over known c.args.rules.now c.args.rulings.now place c.args.proc.now number c.loop-number.number c.index-rules-number.result (get_or c.args.rulings.now c.loop-number.number Admitted) Admitted c.args.stmt
-    c.loop-number-test.true in_rulings c.index-rules-number.is refl (c.loop-number.invariant known place number read) (sym c.in_default.is ∙ c.in_ok-found.ensures known place number read)
+pub returns : goal.returns
+returns c = λ proc at read.
+    let known = known_in c.args.ground.now.file.schemas c.args.ground.now.program c.args.words.now in
+    c.unwrap_or.ensures
+    ∙ ap (λ o. unwrap_or o c.args.stmt) (c.first_rewrite.ensures proc c.args.stmt at read)
+    ∙ mapped_with (made known c.args.place proc c.args.number c.args.stmt) (first_applicable known c.args.ground.now.file.rules c.args.ground.now.rulings c.args.place proc c.args.number) c.args.stmt

@@ -1,35 +1,31 @@
-use Rattle.std.proofs.Common.{ap, sym, ◌∙◌, arith}
-use Rattle.rh_transform.specs.Rewritten.{rewritten_proc}
-use Rattle.rh_transform.proofs.Fronts.{some_within}
-use Rattle.rh_transform.proofs.Made.{made_passes, made_whole}
-use Rattle.rh_transform.proofs.Numbered.{changed_next}
+use Rattle.std.proofs.Common.{◌≡◌, length, refl, ap, sym, ◌∙◌, subst, arith}
+use Rattle.std.specs.Prelude.{slice_get}
+use Rattle.rh_il.specs.Checks.{IsProgram}
+use Rattle.rh_rows.specs.Known.{known_in}
+use Rattle.rh_transform.specs.Rewritten.{rewritten, rewritten_proc}
+use Rattle.rh_transform.proofs.Numbered.{changed_next, changed_whole, some_within}
 use Rattle.rh_transform.proofs.rewriting.rewrite.Goals as goal
 use Rattle.rh_transform.proofs.rewriting.rewrite.Goals.{in-Some+in_ok-rewrite_proc+in_ok-push, in_default}
 
-pub loop-number-preserved : goal.loop-number-preserved
-loop-number-preserved c =
+pub loop-place-preserved : goal.loop-place-preserved
+loop-place-preserved c =
+    let ground = c.args.ground.now in
+    let known = known_in ground.file.schemas ground.program c.args.words.now in
     elim c.match-proc.branch [
-      | in-Some+in_ok-rewrite_proc+in_ok-push w ↦ λ known.
+      | in-Some+in_ok-rewrite_proc+in_ok-push w ↦
           ap (λ v. v.items) w.procs-is
-          ∙ changed_next (rewritten_proc known c.args.rules.now c.args.rulings.now) c.args.program.now c.loop-number.number w.in-Some.proc.now w.in_ok-rewrite_proc.field-0 c.loop-number.procs.items w.push.new.self.items
-          (sym w.in-Some.ensures.proc) (w.in_ok-rewrite_proc.ensures known c.loop-number.number) (c.loop-number.invariant known) w.in_ok-push.ensures.items
-      | in_default w ↦ absurd (some_within c.args.program.now c.loop-number.number (omega (arith, c.loop-number-test.true, c.count-number-end.ensures.count)) w.in_default.ensures.proc)
+          ∙ changed_next (rewritten_proc known ground.file.rules ground.rulings) ground.program c.loop-place.place w.in-Some.proc.now w.in_ok-rewrite_proc.field-0 c.loop-place.procs.items w.push.new.self.items
+          (ap (λ procs. slice_get procs c.loop-place.place) (sym c.program-program.ensures) ∙ sym w.in-Some.ensures.proc) w.in_ok-rewrite_proc.ensures c.loop-place.invariant w.in_ok-push.ensures.items
+      | in_default w ↦
+          absurd (some_within c.program-program.result.now c.loop-place.place (omega (arith, c.loop-place-test.true, c.count-place-end.ensures.count)) w.in_default.ensures.proc)
     ]
 
-pub new-requires : goal.new-requires
-new-requires c =
-    (made_passes c.args.rules.now c.args.rulings.now c.args.program.now c.loop-number.number c.count-number-end.result c.loop-number.procs.items
-    c.count-number-end.ensures.count c.loop-number.auto.number-end c.loop-number-test.false c.loop-number.invariant c.requires.bare c.count-number-end.ensures.program c.numbers_fit.ensures).names
-
-pub unreachable-requires : goal.unreachable-requires
-unreachable-requires c =
-    let passes = (made_passes c.args.rules.now c.args.rulings.now c.args.program.now c.loop-number.number c.count-number-end.result c.loop-number.procs.items
-    c.count-number-end.ensures.count c.loop-number.auto.number-end c.loop-number-test.false c.loop-number.invariant c.requires.bare c.count-number-end.ensures.program c.numbers_fit.ensures).passes in
-    let fails = sym passes ∙ c.in-Err.ensures.fault in
-    absurd cc
-
-pub returns : goal.returns
-returns c = λ known.
-    c.in-Ok.ensures.program
-    ∙ made_whole c.args.rules.now c.args.rulings.now c.args.program.now c.loop-number.number c.count-number-end.result c.loop-number.procs.items
-    c.count-number-end.ensures.count c.loop-number.auto.number-end c.loop-number-test.false c.loop-number.invariant known
+pub checked-requires : goal.checked-requires
+checked-requires c =
+    let ground = c.args.ground.now in
+    let known = known_in ground.file.schemas ground.program c.args.words.now in
+    let size = c.count-place-end.ensures.count ∙ ap length c.program-program.ensures in
+    let whole : c.loop-place.procs.items ≡ rewritten known ground.file.rules ground.rulings ground.program =
+    changed_whole (rewritten_proc known ground.file.rules ground.rulings) ground.program ground.program c.loop-place.place c.loop-place.procs.items refl
+    (omega (arith, c.loop-place.auto.place-end, size)) (omega (arith, c.loop-place-test.false, size)) c.loop-place.invariant in
+    subst IsProgram (sym whole) (c.passes.ensures known)

@@ -1,9 +1,10 @@
-use Rattle.std.proofs.Common.{ℕ, ◌≡◌, take}
-use Rattle.rh_domain.specs.Facts.{Known}
+use Rattle.std.proofs.Common.{◌≡◌, take}
+use Rattle.rh_rows.specs.Known.{known_in}
 use Rattle.rh_transform.specs.Rewritten.{rewritten_statement}
 use Rattle.rh_transform.proofs.Numbered.{changed}
 use Rattle.rh_transform.proofs.rewriting.rewrite_proc.Given as goal
 
 -- the statements so far are rewritten
-abbrev pub invariant-loop-stmt : goal.invariant-loop-stmt
-invariant-loop-stmt l = (known : Known) (place : ℕ) → l.body ≡ changed (rewritten_statement known l.rules l.rulings place l.proc) 0 (take l.stmt-index l.proc.body)
+abbrev pub invariant-loop-number : goal.invariant-loop-number
+invariant-loop-number l =
+    l.body ≡ changed (rewritten_statement (known_in l.ground.file.schemas l.ground.program l.words) l.ground.file.rules l.ground.rulings l.place l.proc) 0 (take l.number l.proc.body)
