@@ -12,7 +12,7 @@
 #
 # These say how the command is run:
 #
-#     output  a device that is standard output, as /dev/full
+#     output  what standard output is: a device, as /dev/full, or "closed pipe", which nobody reads
 #     copies  lines FILE PATH: FILE is a copy of what stands at PATH in the repository
 #     pad     lines FILE SIZE: spaces are put behind FILE until it has SIZE bytes
 #
@@ -43,15 +43,27 @@ pad() {
     done <pad
 }
 
+# Opens descriptor 3 as the standard output that the case's output names.
+open_output() {
+    output=../given/stdout
+    [ ! -f output ] || output=$(cat output)
+    if [ "$output" = 'closed pipe' ]; then
+        # A pipe can be opened for writing only while it has a reader: descriptor 4, until it is closed.
+        output=../given/pipe
+        mkfifo "$output" && exec 4<>"$output" 3>"$output" 4>&-
+    else
+        exec 3>"$output"
+    fi
+}
+
 # Runs the command in the copy, and keeps what it writes and its status.
 run() {
+    open_output || return
     set --
     while IFS= read -r word || [ -n "$word" ]; do
         set -- "$@" "$word"
     done <words || return
-    stdout=../given/stdout
-    [ ! -f output ] || stdout=$(cat output)
-    "$rhodium" "$@" </dev/null >"$stdout" 2>../given/stderr
+    "$rhodium" "$@" </dev/null >&3 3>&- 2>../given/stderr
     echo $? >../given/status
 }
 

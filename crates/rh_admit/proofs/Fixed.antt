@@ -1,7 +1,7 @@
 -- What is told of rules is fixed.
-use Rattle.std.proofs.Common.{◌≡◌, ℕ, ◌<◌, List, [], ◌∷◌, Some, length, get_or, arith, refl, ap, sym, subst, ◌∙◌, inl, inr}
+use Rattle.std.proofs.Common.{◌≡◌, ℕ, ◌<◌, List, [], ◌∷◌, length, get_or, refl, ap, sym, subst, ◌∙◌, inl, inr}
 use Rattle.std.specs.Prelude.{slice_get}
-use Rattle.std.specs.List.{All, AllZip}
+use Rattle.std.specs.List.{AllZip}
 use Rattle.std.proofs.lemmas.Bool.{cases_order}
 use Rattle.std.proofs.lemmas.Option.{same_Some, slice_get-get_or, slice_get_within}
 use Rattle.rh_log.specs.declared.log.Admission.{Admission}
@@ -15,10 +15,9 @@ use Rattle.rh_meaning.specs.Literal.{TreeLit}
 use Rattle.rh_oblig.specs.Goals.{goals}
 use Rattle.rh_oblig.specs.Obligation.{IsAdmitted, IsShown, obligations_of}
 use Rattle.rh_oblig.specs.Ruling.{IsFirstOpen, IsRuling}
-use Rattle.rh_refuter.specs.declared.search.Verdict.{Verdict}
 use Rattle.rh_refuter.specs.declared.search.Verdict.TheVariants.{Closed, Open}
 use Rattle.rh_refuter.proofs.Fixed.{one_found}
-use Rattle.rh_admit.specs.Admission.{Finds, IsKept, Part}
+use Rattle.rh_admit.specs.Admission.{Finds, Part}
 use Rattle.rh_admit.specs.Rules.{IsTold, OneListIsTold}
 
 closed_is : (log other : Log) → Closed log ≡ Closed other → log ≡ other

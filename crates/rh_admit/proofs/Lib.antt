@@ -1,5 +1,6 @@
 pub mod Deciding
 pub mod Rulings
-pub mod Telling
+pub mod Answered
+pub mod Gathered
 pub mod Small
 pub mod Fixed

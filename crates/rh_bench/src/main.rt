@@ -1,7 +1,7 @@
 //! Times parts of the product, for the scripts in `bench/`. The words of the command line are one of
 //!
 //!     solver LAYERS WORDS    solves a system in layers of words, by one thread and by workers
-//!     rules FILE             reads a rule file and proves its rules
+//!     rules FILE             reads a rule file and proves its rules, by one thread and by several
 //!     program FILE           reads a program
 //!     hard SPLITS            refutes an obligation of 512 terms that is made to be hard
 //!
@@ -17,12 +17,14 @@ ghost use Rattle.std.specs.Prelude.{◌≤◌, length};
 
 use hard::{hard_obligation, is_small};
 use layers::Layers;
-use rh_admit::admit;
+use rh_admit::{admit, admit_rule};
 use rh_engine::solve;
 use rh_il_text::read_program;
 use rh_log::Admission;
+use rh_oblig::ObligFault;
 use rh_outside::OpenGate;
 use rh_refuter::{Verdict, refute};
+use rh_rule::RuleFile;
 use rh_rule_text::read_rules;
 use rh_system::greatest;
 use rounds::rounds;
@@ -71,31 +73,60 @@ fn admitted(admissions: &[Admission]) -> usize {
         .count()
 }
 
-/// Reads a rule file and proves its rules.
-fn time_rules(rt: &HostRuntime, text: &[u8]) -> io::Result<()>
-    requires { length text.now ≤ 1048576 }
-{
+/// The rulings on the rules of a file, made one after another by one thread.
+fn admit_in_turn(alloc: Global, file: &RuleFile) -> Result<Vec<Admission>, ObligFault> {
+    let mut made = Vec::new(alloc);
+    let count = file.rules().len().min(u32::MAX as usize) as u32;
+    for rule in 0..count {
+        made.push(admit_rule(alloc, file, rule)?)?;
+    }
+    Ok(made)
+}
+
+/// Proves the rules of a file, by one thread and by several.
+fn time_proofs<R: Threads + Print + Eprint + Clock + Sync>(
+    rt: &R,
+    alloc: Global,
+    file: &RuleFile,
+) -> io::Result<()> {
     let start = Instant::now(rt)?;
-    let read = read_rules(rt.alloc(), text);
-    let reading = start.elapsed(rt)?.as_micros();
-    eprintln!(rt; "  {reading} us to read")?;
-    let Ok(file) = read else {
-        println!(rt; "refused")?;
-        return Ok(());
-    };
+    let in_turn = admit_in_turn(alloc, file);
+    let taken = start.elapsed(rt)?.as_micros();
+    eprintln!(rt; "  {taken} us to prove by one thread")?;
     let start = Instant::now(rt)?;
-    let ruled = admit(rt.alloc(), &file);
-    let proving = start.elapsed(rt)?.as_micros();
-    eprintln!(rt; "  {proving} us to prove")?;
-    match ruled {
-        Ok(admissions) => println!(rt;
+    let ruled = admit(rt, alloc, file);
+    let taken = start.elapsed(rt)?.as_micros();
+    eprintln!(rt; "  {taken} us to prove by several threads")?;
+    match (in_turn, ruled) {
+        (Ok(_), Ok(admissions)) => println!(rt;
             "{} rules, {} admitted",
             admissions.len(),
             admitted(admissions.as_slice())
         )?,
-        Err(_) => println!(rt; "too many terms")?,
+        _ => println!(rt; "too many terms")?,
     }
     Ok(())
+}
+
+/// Reads a rule file and proves its rules.
+fn time_rules<R: Threads + Print + Eprint + Clock + Sync>(
+    rt: &R,
+    alloc: Global,
+    text: &[u8],
+) -> io::Result<()>
+    requires { length text.now ≤ 1048576 }
+{
+    let start = Instant::now(rt)?;
+    let read = read_rules(alloc, text);
+    let reading = start.elapsed(rt)?.as_micros();
+    eprintln!(rt; "  {reading} us to read")?;
+    match read {
+        Ok(file) => time_proofs(rt, alloc, &file),
+        Err(_) => {
+            println!(rt; "refused")?;
+            Ok(())
+        }
+    }
 }
 
 /// Reads a program.
@@ -156,7 +187,10 @@ fn main(rt: HostRuntime) -> io::Result<()> {
     let second = words.next();
     match kind.as_deref() {
         Some("solver") => time_solver(&rt, rt.alloc(), number(&first), number(&second)),
-        Some("rules") => time_rules(&rt, text_of(&rt, first.as_deref()).as_slice()),
+        Some("rules") => {
+            let text = text_of(&rt, first.as_deref());
+            time_rules(&rt, rt.alloc(), text.as_slice())
+        }
         Some("program") => time_program(&rt, text_of(&rt, first.as_deref()).as_slice()),
         Some("hard") => time_hard(&rt, number(&first)),
         _ => Ok(()),

@@ -2,7 +2,8 @@
 #![tactic(auto)]
 
 use rh_outside::{FileShelf, OpenGate, StdSink};
-use rh_top::{Status, refusal_line, rhodium};
+use rh_report::{Status, refusal_line};
+use rh_top::rhodium;
 use std::alloc::AllocError;
 use std::env;
 use std::io::{ErrorKind, Write};
@@ -19,7 +20,7 @@ fn collected(rt: &HostRuntime, args: env::Args) -> Result<Vec<String>, AllocErro
     Ok(words)
 }
 
-/// The words of the command line. Words that are no text are no list of words.
+/// The words of the command line. Where one is not UTF-8, there is no list of words.
 fn words_of(rt: &HostRuntime) -> Result<Vec<String>, Status> {
     match env::args(rt) {
         Ok(args) => match collected(rt, args) {
@@ -27,7 +28,7 @@ fn words_of(rt: &HostRuntime) -> Result<Vec<String>, Status> {
             Err(_) => Err(Status::NoMemory),
         },
         Err(error) if error.kind() == ErrorKind::OutOfMemory => Err(Status::NoMemory),
-        Err(_) => Err(Status::Unbuilt(0)),
+        Err(_) => Err(Status::Usage(0)),
     }
 }
 

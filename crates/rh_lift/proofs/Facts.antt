@@ -50,7 +50,7 @@ use Rattle.rh_lift.proofs.Cells.{write_inside}
 use Rattle.rh_lift.proofs.Concluded.{Applies, Steps, checked, concluded}
 use Rattle.rh_lift.proofs.Edges.{all_pass, edge_into, item_of_contains, premises_hold}
 use Rattle.rh_lift.proofs.Forms.{by_form}
-use Rattle.rh_lift.proofs.Meanings.{variable_kind}
+use Rattle.rh_meaning.proofs.ParamKinds.{variable_kind}
 use Rattle.rh_lift.proofs.Models.{AreValues, Around, at_rest, held_value, held_values, nothing_fits, operand_fits, rest_fits}
 use Rattle.rh_lift.proofs.Own.{call_own, entry_own}
 

@@ -45,7 +45,7 @@ use Rattle.rh_lift.specs.Local.{stays}
 use Rattle.rh_lift.specs.Standing.{IsSafe}
 use Rattle.rh_lift.proofs.Cells.{write_inside}
 use Rattle.rh_lift.proofs.Concluded.{Steps}
-use Rattle.rh_lift.proofs.Meanings.{variable_kind}
+use Rattle.rh_meaning.proofs.ParamKinds.{variable_kind}
 use Rattle.rh_lift.proofs.Models.{AreValues, Around, held_value, held_values, model_of, nothing_fits, operand_fits, operand_value}
 use Rattle.rh_lift.proofs.Own.{new_own}
 use Rattle.rh_lift.proofs.Plain.{StepsBy, at_variable, left_by, plain_step, steps_in, write_step}

@@ -20,13 +20,15 @@ use Rattle.rh_rule.specs.declared.schema.Param.{Param}
 use Rattle.rh_rule.specs.Params.{kind_of}
 use Rattle.rh_domain.specs.Binding.{Binding, FitsKind, FitsBinding, arg_under, as_base, as_number, as_variable, base_under, bound}
 use Rattle.rh_ground.specs.Template.{IsTame}
-use Rattle.rh_term.specs.Model.{Model, IsModel, AValue, AStore, store_of}
-use Rattle.rh_term.specs.Store.{nothing, read, select}
-use Rattle.rh_meaning.specs.Literal.{operand, value_tree}
+use Rattle.rh_term.specs.Model.{Model, IsModel, AValue, AStore}
+use Rattle.rh_term.specs.Store.{nothing}
+use Rattle.rh_meaning.specs.Literal.{operand}
 use Rattle.rh_oblig.specs.Statement.{before, value}
 use Rattle.rh_meaning.specs.Tree.{Tree}
 use Rattle.rh_meaning.specs.Denotation.{denotation}
 use Rattle.rh_meaning.specs.Holds.{arg_value}
+use Rattle.rh_meaning.specs.Laws.{StandsFor}
+use Rattle.rh_meaning.proofs.Says.{value_for}
 
 -- what a step has besides the variables: the operand that `_` is, the new cell, the answer of a call, and the stores
 -- before and after it
@@ -110,27 +112,24 @@ as_operand : (base : ℕ) (cells : List Value) (arg : Arg) → arg_value base ce
 as_operand base cells (Var number) = refl
 as_operand base cells (Const number) = refl
 
-variable_value : (width base : ℕ) (cells : List Value) (arg : Arg) → FitsKind width AVar arg → read cells (base + as_variable arg) ≡ arg_value base cells arg
-variable_value width base cells (Var number) fits = refl
-variable_value width base cells (Const number) fits = absurd fits
-
-constant_value : (width base : ℕ) (cells : List Value) (arg : Arg) → FitsKind width AConst arg → ANumber (as_number arg) ≡ arg_value base cells arg
-constant_value width base cells (Const number) fits = refl
-constant_value width base cells (Var number) fits = absurd fits
+meta_stands : (width : ℕ) (params : List Param) (binding : Binding) (base : ℕ) (around : Around) (meta : ℕ) (kind : Kind) (arg : Arg) → kind_of params meta ≡ kind → bound binding meta ≡ arg
+    → FitsKind width kind arg → StandsFor (model_of binding base around) base params (Meta meta) arg
+meta_stands width params binding base around meta AVar (Var number) kind is fits = (kind, ap (λ a. base + as_variable a) is)
+meta_stands width params binding base around meta AConst (Const number) kind is fits = (kind, ap as_number is)
+meta_stands width params binding base around meta AVar (Const number) kind is fits = absurd fits
+meta_stands width params binding base around meta AConst (Var number) kind is fits = absurd fits
 
 module _ (width : ℕ) (params : List Param) (binding : Binding) (base : ℕ) (around : Around) (fits : FitsBinding width params binding) where
-  meta_value : (store : Tree) (cells : List Value) (meta : ℕ) (kind : Kind) → denotation (model_of binding base around) store ≡ AStore cells → FitsKind width kind (bound binding meta)
-      → denotation (model_of binding base around) (value_tree store meta kind) ≡ AValue (arg_value base cells (bound binding meta))
-  meta_value store cells meta AVar is fit =
-      ap (λ d. AValue (select (store_of d) (APointer (base + as_variable (bound binding meta))))) is ∙ ap AValue (variable_value width base cells (bound binding meta) fit)
-  meta_value store cells meta AConst is fit = ap AValue (constant_value width base cells (bound binding meta) fit)
+  -- an operand stands for its argument
+  pub operand_stands : (b : RuleBase) → IsTame b → StandsFor (model_of binding base around) base params b (arg_under binding b)
+  operand_stands (Meta meta) tame = meta_stands width params binding base around meta (kind_of params meta) (bound binding meta) refl refl (fits meta)
+  operand_stands (Num number) tame = refl
+  operand_stands Wild tame = absurd tame
 
-  -- an operand over a store has the value that its argument has there
+  -- so over a store it has the value that its argument has there
   pub operand_meant : (store : Tree) (cells : List Value) (b : RuleBase) → denotation (model_of binding base around) store ≡ AStore cells → IsTame b
       → denotation (model_of binding base around) (operand params store b) ≡ AValue (arg_value base cells (arg_under binding b))
-  operand_meant store cells (Meta meta) is tame = meta_value store cells meta (kind_of params meta) is (fits meta)
-  operand_meant store cells (Num number) is tame = refl
-  operand_meant store cells Wild is tame = absurd tame
+  operand_meant store cells b is tame = value_for (model_of binding base around) base params store cells is b (arg_under binding b) (operand_stands b tame)
 
   -- and before the step the value that it has in the state
   pub operand_value : (b : RuleBase) → IsTame b → denotation (model_of binding base around) (value params b) ≡ AValue (base_value around.before base (base_under binding b))

@@ -26,7 +26,7 @@ use Rattle.rh_term.specs.Model.{Model, AValue, alike, value_of}
 use Rattle.rh_oblig.specs.Hypotheses.{side_literal, side_operand, side_tree}
 use Rattle.rh_meaning.specs.Literal.{binding_tree}
 use Rattle.rh_meaning.specs.Denotation.{denotation, is_true_in}
-use Rattle.rh_lift.proofs.Meanings.{constant_kind, variable_kind}
+use Rattle.rh_meaning.proofs.ParamKinds.{constant_kind, variable_kind}
 use Rattle.rh_lift.proofs.Models.{Around, model_of}
 
 total_number : (op : Op) (a b : ℤ) → total op (ANumber a) (ANumber b) ≡ ANumber (number_of op a b)

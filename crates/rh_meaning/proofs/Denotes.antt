@@ -40,6 +40,23 @@ leaf_denotes model known (Computed op left right) h = let no = h.0 in cc
 leaf_denotes model known (Kind value) h = let no = h in cc
 leaf_denotes model known (Una store value) h = let no = h.0 in cc
 
+-- the leaves of a tree are terms without parts
+abbrev pub HasBareLeaves : Tree → Type 0
+HasBareLeaves (Leaf term) = HasParts [] term
+HasBareLeaves (Select store address) = HasBareLeaves store × HasBareLeaves address
+HasBareLeaves (Update store address value) = HasBareLeaves store × HasBareLeaves address × HasBareLeaves value
+HasBareLeaves (Compute op left right) = HasBareLeaves left × HasBareLeaves right
+HasBareLeaves (KindOf value) = HasBareLeaves value
+HasBareLeaves (Unheld store value) = HasBareLeaves store × HasBareLeaves value
+
+pub sorted_bare : (tree : Tree) → IsSorted tree → HasBareLeaves tree
+sorted_bare (Leaf term) sorted = sorted.0
+sorted_bare (Select store address) sorted = (sorted_bare store sorted.0, sorted_bare address sorted.1)
+sorted_bare (Update store address value) sorted = (sorted_bare store sorted.0, sorted_bare address sorted.1, sorted_bare value sorted.2)
+sorted_bare (Compute op left right) sorted = (sorted_bare left sorted.0, sorted_bare right sorted.1)
+sorted_bare (KindOf value) sorted = sorted_bare value sorted.0
+sorted_bare (Unheld store value) sorted = (sorted_bare store sorted.0, sorted_bare value sorted.1)
+
 module _ (model : Model) (terms : List Term) (list : IsTermList terms) where
   abbrev all : List Denotation
   all = denotations model terms
@@ -47,38 +64,38 @@ module _ (model : Model) (terms : List Term) (list : IsTermList terms) where
   at_place : (term : Term) → place_of terms term < length terms → denotation_at all (place_of terms term) ≡ denotation_in model all term
   at_place term within = known_at model terms list (place_of terms term) term (place_found terms term within)
 
-  pub tree_denotes : (tree : Tree) → IsIn terms tree → IsSorted tree → denotation_at all (tree_place terms tree) ≡ denotation model tree
-  tree_denotes (Leaf term) is_in sorted = at_place term is_in ∙ leaf_denotes model all term sorted.0
-  tree_denotes (Select store address) is_in sorted =
+  pub tree_denotes : (tree : Tree) → IsIn terms tree → HasBareLeaves tree → denotation_at all (tree_place terms tree) ≡ denotation model tree
+  tree_denotes (Leaf term) is_in bare = at_place term is_in ∙ leaf_denotes model all term bare
+  tree_denotes (Select store address) is_in bare =
       at_place (Sel (tree_place terms store) (tree_place terms address)) is_in.2
-      ∙ ap (λ s. AValue (select (store_of s) (value_of (denotation_at all (tree_place terms address))))) (tree_denotes store is_in.0 sorted.0)
-      ∙ ap (λ a. AValue (select (store_of (denotation model store)) (value_of a))) (tree_denotes address is_in.1 sorted.1)
-  tree_denotes (Update store address value) is_in sorted =
+      ∙ ap (λ s. AValue (select (store_of s) (value_of (denotation_at all (tree_place terms address))))) (tree_denotes store is_in.0 bare.0)
+      ∙ ap (λ a. AValue (select (store_of (denotation model store)) (value_of a))) (tree_denotes address is_in.1 bare.1)
+  tree_denotes (Update store address value) is_in bare =
       at_place (Upd (tree_place terms store) (tree_place terms address) (tree_place terms value)) is_in.3
-      ∙ ap (λ s. AStore (update (store_of s) (value_of (denotation_at all (tree_place terms address))) (value_of (denotation_at all (tree_place terms value))))) (tree_denotes store is_in.0 sorted.0)
-      ∙ ap (λ a. AStore (update (store_of (denotation model store)) (value_of a) (value_of (denotation_at all (tree_place terms value))))) (tree_denotes address is_in.1 sorted.1)
-      ∙ ap (λ v. AStore (update (store_of (denotation model store)) (value_of (denotation model address)) (value_of v))) (tree_denotes value is_in.2 sorted.2)
-  tree_denotes (Compute op left right) is_in sorted =
+      ∙ ap (λ s. AStore (update (store_of s) (value_of (denotation_at all (tree_place terms address))) (value_of (denotation_at all (tree_place terms value))))) (tree_denotes store is_in.0 bare.0)
+      ∙ ap (λ a. AStore (update (store_of (denotation model store)) (value_of a) (value_of (denotation_at all (tree_place terms value))))) (tree_denotes address is_in.1 bare.1)
+      ∙ ap (λ v. AStore (update (store_of (denotation model store)) (value_of (denotation model address)) (value_of v))) (tree_denotes value is_in.2 bare.2)
+  tree_denotes (Compute op left right) is_in bare =
       at_place (Computed op (tree_place terms left) (tree_place terms right)) is_in.2
-      ∙ ap (λ l. AValue (total op (value_of l) (value_of (denotation_at all (tree_place terms right))))) (tree_denotes left is_in.0 sorted.0)
-      ∙ ap (λ r. AValue (total op (value_of (denotation model left)) (value_of r))) (tree_denotes right is_in.1 sorted.1)
-  tree_denotes (KindOf value) is_in sorted =
-      at_place (Kind (tree_place terms value)) is_in.1 ∙ ap (λ v. AKind (is_number (value_of v))) (tree_denotes value is_in.0 sorted.0)
-  tree_denotes (Unheld store value) is_in sorted =
+      ∙ ap (λ l. AValue (total op (value_of l) (value_of (denotation_at all (tree_place terms right))))) (tree_denotes left is_in.0 bare.0)
+      ∙ ap (λ r. AValue (total op (value_of (denotation model left)) (value_of r))) (tree_denotes right is_in.1 bare.1)
+  tree_denotes (KindOf value) is_in bare =
+      at_place (Kind (tree_place terms value)) is_in.1 ∙ ap (λ v. AKind (is_number (value_of v))) (tree_denotes value is_in.0 bare)
+  tree_denotes (Unheld store value) is_in bare =
       at_place (Una (tree_place terms store) (tree_place terms value)) is_in.2
-      ∙ ap (λ s. AnAnswer (is_unheld (store_of s) (value_of (denotation_at all (tree_place terms value))))) (tree_denotes store is_in.0 sorted.0)
-      ∙ ap (λ v. AnAnswer (is_unheld (store_of (denotation model store)) (value_of v))) (tree_denotes value is_in.1 sorted.1)
+      ∙ ap (λ s. AnAnswer (is_unheld (store_of s) (value_of (denotation_at all (tree_place terms value))))) (tree_denotes store is_in.0 bare.0)
+      ∙ ap (λ v. AnAnswer (is_unheld (store_of (denotation model store)) (value_of v))) (tree_denotes value is_in.1 bare.1)
 
-  -- both trees of a literal stand in the list and are of the right sorts
+  -- a tree stands in the list, and its leaves are terms without parts
   pub record Stands (tree : Tree) : Type 0 where
     pub is_in : IsIn terms tree
-    pub sorted : IsSorted tree
+    pub bare : HasBareLeaves tree
 
   pub lit_denotes : (lit : TreeLit) → Stands lit.left → Stands lit.right → is_true_lit (same_in model terms) (lit_in terms lit) ≡ is_true_in model lit
   lit_denotes lit left right =
       ap (λ (same : Bool). if lit.equal then same else not same)
-      (ap (λ d. alike d (denotation_at all (tree_place terms lit.right))) (tree_denotes lit.left left.is_in left.sorted)
-      ∙ ap (alike (denotation model lit.left)) (tree_denotes lit.right right.is_in right.sorted))
+      (ap (λ d. alike d (denotation_at all (tree_place terms lit.right))) (tree_denotes lit.left left.is_in left.bare)
+      ∙ ap (alike (denotation model lit.left)) (tree_denotes lit.right right.is_in right.bare))
 
   pub lits_denote : (lits : List TreeLit) → AllByRecursion Stands (flat_map literal_trees lits)
       → list_any (is_true_lit (same_in model terms)) (map (lit_in terms) lits) ≡ list_any (is_true_in model) lits

@@ -4,3 +4,9 @@ pub mod Sorted
 pub mod Added
 pub mod Denotes
 pub mod NotHeld
+pub mod Put
+pub mod TreeAt
+pub mod ParamKinds
+pub mod Says
+pub mod SaysInList
+pub mod Steps

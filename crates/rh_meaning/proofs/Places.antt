@@ -5,12 +5,7 @@ use Rattle.std.proofs.lemmas.Bool.{eqb-false}
 use Rattle.rh_term.specs.declared.term.Term.{Term}
 use Rattle.rh_term.specs.Place.{same_term}
 use Rattle.rh_term.proofs.Placed.{same_term-true, same_term-refl}
-use Rattle.rh_meaning.specs.Tree.{place_of, with_term}
-
--- the new list is the old one with more behind it
-pub record Extends (old new : List Term) : Type 0 where
-  pub more : List Term
-  pub is : new ≡ old ++ more
+use Rattle.rh_meaning.specs.Tree.{Extends, place_of, with_term}
 
 pub extends_itself : (terms : List Term) → Extends terms terms
 extends_itself terms = record { more = []; is = sym (append-nil terms) }

@@ -9,9 +9,9 @@ use Rattle.rh_term.specs.declared.term.Term.TheVariants.{Num, Cst, Addr, Any, Fr
 use Rattle.rh_term.specs.Term.{is_value_term, is_store_term, is_at, is_value_at, is_store_at, HasParts, IsTermList, IsAdded}
 use Rattle.rh_term.proofs.Listed.{grown}
 use Rattle.rh_meaning.specs.Sorts.{IsIn, is_value_tree, is_store_tree}
-use Rattle.rh_meaning.specs.Tree.{Tree, Leaf, Select, Update, Compute, KindOf, Unheld, place_of, tree_place, with_term}
+use Rattle.rh_meaning.specs.Tree.{Extends, Tree, Leaf, Select, Update, Compute, KindOf, Unheld, place_of, tree_place, with_term}
 use Rattle.rh_term.specs.Place.{same_term}
-use Rattle.rh_meaning.proofs.Places.{Extends, place_found, place_most}
+use Rattle.rh_meaning.proofs.Places.{place_found, place_most}
 use Rattle.rh_term.proofs.Placed.{same_term-refl}
 
 -- what a tree in a list is the head of stands at its place
@@ -83,7 +83,7 @@ at_longer_cases : (test : Term → Bool) (o p : Option Term) → ((term : Term) 
 at_longer_cases test None p keeps h = cc
 at_longer_cases test (Some term) p keeps h = ap (λ o. option_map_or test o false) (keeps term refl) ∙ h
 
-at_longer : (test : Term → Bool) (terms more : List Term) (place : ℕ) → is_at test terms place ≡ true → is_at test (terms ++ more) place ≡ true
+pub at_longer : (test : Term → Bool) (terms more : List Term) (place : ℕ) → is_at test terms place ≡ true → is_at test (terms ++ more) place ≡ true
 at_longer test terms more place h = at_longer_cases test (slice_get terms place) (slice_get (terms ++ more) place) (get_longer terms more place) h
 
 pub parts_longer : (terms more : List Term) (term : Term) → HasParts terms term → HasParts (terms ++ more) term

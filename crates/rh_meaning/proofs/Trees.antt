@@ -4,8 +4,8 @@ use Rattle.std.proofs.lemmas.List.{length-append}
 use Rattle.rh_term.specs.declared.term.Term.{Term}
 use Rattle.rh_term.specs.declared.term.Term.TheVariants.{Sel, Upd, Op as Computed, Kind, Una}
 use Rattle.rh_meaning.specs.Sorts.{IsIn, tree_size}
-use Rattle.rh_meaning.specs.Tree.{Tree, Leaf, Select, Update, Compute, KindOf, Unheld, place_of, tree_place, with_term, with_tree}
-use Rattle.rh_meaning.proofs.Places.{Extends, extends_further, place_longer, with_term_few, with_term_has}
+use Rattle.rh_meaning.specs.Tree.{Extends, Tree, Leaf, Select, Update, Compute, KindOf, Unheld, place_of, tree_place, with_term, with_tree}
+use Rattle.rh_meaning.proofs.Places.{extends_further, place_longer, with_term_few, with_term_has}
 
 -- a tree keeps its place where the list grows
 pub place_stays : (terms more : List Term) (tree : Tree) → IsIn terms tree → tree_place (terms ++ more) tree ≡ tree_place terms tree

@@ -6,3 +6,5 @@ pub mod Sorts
 pub mod Placed
 pub mod Denotation
 pub mod Holds
+pub mod Atoms
+pub mod Laws

@@ -22,6 +22,10 @@ equals left right = record { left = left; right = right; equal = true }
 abbrev pub differs : Tree → Tree → TreeLit
 differs left right = record { left = left; right = right; equal = false }
 
+-- the one or the other
+abbrev pub pair_lit : Tree → Tree → Bool → TreeLit
+pair_lit left right equal = record { left = left; right = right; equal = equal }
+
 -- a clause over trees
 abbrev pub TreeClause : Type 0
 TreeClause = List TreeLit

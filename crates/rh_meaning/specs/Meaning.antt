@@ -46,7 +46,11 @@ atom_literal params args store (IsNumber term) = number_tree (meaning_tree param
 atom_literal params args store (IsPointer term) = pointer_tree (meaning_tree params args store term)
 atom_literal params args store (Unaliased param) = unheld_tree store (address_at args param)
 
--- the literals of a fact's atoms, in their order
+-- the literals of a schema's atoms, in their order
+abbrev pub schema_literals : List Param → List RuleBase → Tree → Schema → List TreeLit
+schema_literals params args store schema = map (atom_literal params args store) schema.meaning
+
+-- the literals of a fact's atoms
 abbrev pub fact_literals : List Schema → List Param → Tree → FactUse → List TreeLit
 fact_literals schemas params store fact =
-    elim (slice_get schemas fact.schema) as (λ _. List TreeLit) [ None ↦ [] | Some schema ↦ map (atom_literal params fact.args store) schema.meaning ]
+    elim (slice_get schemas fact.schema) as (λ _. List TreeLit) [ None ↦ [] | Some schema ↦ schema_literals params fact.args store schema ]

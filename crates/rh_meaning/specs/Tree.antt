@@ -1,5 +1,5 @@
 -- Terms as trees, and how they stand in a list in which each term names its parts by their places.
-use Rattle.std.specs.Prelude.{ℕ, suc, ◌==◌, List, [], ◌∷◌, ◌++◌, if◌then◌else◌, length}
+use Rattle.std.specs.Prelude.{◌≡◌, ℕ, suc, ◌==◌, List, [], ◌∷◌, ◌++◌, if◌then◌else◌, length}
 use Rattle.rh_il.specs.declared.value.Op.{Op}
 use Rattle.rh_term.specs.declared.term.Term.{Term}
 use Rattle.rh_term.specs.declared.term.Term.TheVariants.{Sel, Upd, Op as Computed, Kind, Una}
@@ -46,3 +46,8 @@ with_tree terms (Compute op left right) =
 with_tree terms (KindOf value) = let parts = with_tree terms value in with_term parts (Kind (tree_place parts value))
 with_tree terms (Unheld store value) =
     let parts = with_tree (with_tree terms store) value in with_term parts (Una (tree_place parts store) (tree_place parts value))
+
+-- the new list is the old one with more behind it
+pub record Extends (old new : List Term) : Type 0 where
+  pub more : List Term
+  pub is : new ≡ old ++ more

@@ -112,7 +112,7 @@ pub fn add(terms: &mut Terms, term: Term) -> Result<(), AllocError>
 }
 
 /// The type keeps its list so.
-fn is_term_list(terms: &Terms)
+pub(crate) fn is_term_list(terms: &Terms)
     ensures { IsTermList terms.now }
 {
     let _ = terms.len();

@@ -1,6 +1,6 @@
 //! Meanings of facts as literals over a store.
 ghost use Rattle.std.specs.Prelude.{◌≡◌, IfOk, map};
-ghost use Rattle.rh_meaning.specs.Meaning.{address_at, arg_at, atom_literal, fact_literals, meaning_operand, meaning_tree};
+ghost use Rattle.rh_meaning.specs.Meaning.{address_at, arg_at, atom_literal, fact_literals, meaning_operand, meaning_tree, meta_of};
 ghost use Rattle.rh_meaning.specs.View.{tree_of, lit_of, lits_of};
 
 use crate::literal::{TreeLit, differs, equals, is_number, is_pointer, is_unheld, operand};
@@ -125,13 +125,21 @@ fn meaning_operand(
 fn address_at(args: &[RuleBase], param: u32) -> Tree
     ensures { tree_of result ≡ address_at args.now param }
 {
+    Tree::Leaf(Term::Addr(meta_at(args, param)))
+}
+
+/// The metavariable that an argument is.
+pub(crate) fn meta_at(args: &[RuleBase], param: u32) -> u32
+    ensures { result ≡ meta_of (arg_at args.now param) }
+{
     match arg_at(args, param) {
-        RuleBase::Meta(meta) => Tree::Leaf(Term::Addr(meta)),
-        _ => Tree::Leaf(Term::Addr(0)),
+        RuleBase::Meta(meta) => meta,
+        _ => 0,
     }
 }
 
-fn arg_at(args: &[RuleBase], param: u32) -> RuleBase
+/// The argument in the place of a parameter.
+pub(crate) fn arg_at(args: &[RuleBase], param: u32) -> RuleBase
     ensures { result ≡ arg_at args.now param }
 {
     match args.get(param as usize) {

@@ -15,14 +15,13 @@ use Rattle.rh_term.specs.Store.{nothing}
 use Rattle.rh_term.specs.Partition.{HasNoOpenPartition}
 use Rattle.rh_term.specs.Term.{IsTermList}
 use Rattle.rh_term.proofs.Bridge.{goals_hold}
-use Rattle.rh_meaning.specs.Tree.{Tree, Leaf}
+use Rattle.rh_meaning.specs.Tree.{Extends, Tree, Leaf}
 use Rattle.rh_meaning.specs.Literal.{TreeLit, TreeClause, literal_trees, clause_trees}
 use Rattle.rh_meaning.specs.Placed.{lit_in, clauses_in}
 use Rattle.rh_meaning.specs.Denotation.{are_true_in, is_true_in}
 use Rattle.rh_meaning.specs.Sorts.{IsIn, IsSorted}
 use Rattle.rh_meaning.proofs.Trees.{stays_in}
-use Rattle.rh_meaning.proofs.Places.{Extends}
-use Rattle.rh_meaning.proofs.Denotes.{Stands, clauses_denote, clauses_within, lit_denotes, lit_within}
+use Rattle.rh_meaning.proofs.Denotes.{Stands, clauses_denote, clauses_within, lit_denotes, lit_within, sorted_bare}
 use Rattle.rh_oblig.specs.TermList.{closed, first_trees, leaves_of, with_trees, term_list}
 use Rattle.rh_oblig.specs.Valid.{IsValid}
 use Rattle.rh_oblig.proofs.Walks.{with_trees_has, closed_extends}
@@ -41,7 +40,7 @@ all_stand : (model : Model) (base terms : List Term) (list : IsTermList terms) (
     → AllByRecursion (Stands model terms list) trees
 all_stand model base terms list grown [] is_in sorted = tt
 all_stand model base terms list grown (tree ∷ trees) is_in sorted =
-    (record { is_in = stays_in base terms tree grown is_in.0; sorted = sorted.0 }, all_stand model base terms list grown trees is_in.1 sorted.1)
+    (record { is_in = stays_in base terms tree grown is_in.0; bare = sorted_bare tree sorted.0 }, all_stand model base terms list grown trees is_in.1 sorted.1)
 
 module _ (params : List Param) (pattern : Form) (hypotheses : List TreeClause) (goal : TreeLit)
     (list : IsTermList (term_list params pattern hypotheses goal)) (sorted : AllByRecursion IsSorted (first_trees params pattern hypotheses goal)) (model : Model) where

@@ -7,8 +7,8 @@ use Rattle.rh_il.specs.declared.value.Op.{Op as Operator}
 use Rattle.rh_term.specs.declared.term.Term.{Term}
 use Rattle.rh_term.specs.declared.term.Term.TheVariants.{Num, Cst, Addr, Any, Fresh, Answer, Before, After, Start, Sel, Upd, Op as Computed, Kind, IsNum, IsPtr, Una, Yes}
 use Rattle.rh_term.specs.Term.{is_value_term, is_at, HasParts, IsTermList}
-use Rattle.rh_meaning.specs.Tree.{Tree, with_term, with_tree}
-use Rattle.rh_meaning.proofs.Places.{Extends, extends_itself, extends_further, with_term_has}
+use Rattle.rh_meaning.specs.Tree.{Extends, Tree, with_term, with_tree}
+use Rattle.rh_meaning.proofs.Places.{extends_itself, extends_further, with_term_has}
 use Rattle.rh_meaning.specs.Sorts.{IsIn}
 use Rattle.rh_meaning.proofs.Trees.{stays_in, with_tree_has}
 use Rattle.rh_meaning.proofs.Sorted.{at_place, parts_here, parts_in}

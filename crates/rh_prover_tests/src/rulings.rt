@@ -169,7 +169,7 @@ fn an_obligation_is_as_worked_by_hand(rt: HostRuntime) -> Result<(), Fail> {
 #[test]
 fn one_rule_is_refused_and_one_admitted(rt: HostRuntime) -> Result<(), Fail> {
     let file = file(&rt)?;
-    let made = admit(rt.alloc(), &file)?;
+    let made = admit(&rt, rt.alloc(), &file)?;
     let [refused, admitted] = made.as_slice() else {
         return Err("not two rulings".into());
     };

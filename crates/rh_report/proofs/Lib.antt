@@ -4,3 +4,7 @@ pub mod Commented
 pub mod Texts
 pub mod WordLines
 pub mod EdgeLines
+pub mod Counted
+pub mod WordCounts
+pub mod KnownCounts
+pub mod Rewrites

@@ -40,7 +40,11 @@ fn push_name(out: &mut Vec<u8>, names: &[Name], number: u32) -> Result<(), Alloc
     }
 }
 
-fn push_proc_name(out: &mut Vec<u8>, program: &Program, number: u32) -> Result<(), AllocError>
+pub(crate) fn push_proc_name(
+    out: &mut Vec<u8>,
+    program: &Program,
+    number: u32,
+) -> Result<(), AllocError>
     ensures { OnOk result (out.new.items ≡ out.old.items ++ proc_name program.now number) }
 {
     match program.proc(number) {

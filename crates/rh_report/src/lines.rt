@@ -54,6 +54,16 @@ fn push_rule_lines(
     Ok(())
 }
 
+/// A line for each rule with its ruling, in the order of the rules.
+pub fn rule_lines(alloc: Global, rules: &[Rule], rulings: &[Ruling]) -> Result<Vec<u8>, AllocError>
+    requires { length rules.now ≡ length rulings.now }
+    ensures { IfOk result (λ text. text.items ≡ rule_lines rules.now rulings.now) }
+{
+    let mut out = Vec::new(alloc);
+    push_rule_lines(alloc, &mut out, rules, rulings)?;
+    Ok(out)
+}
+
 /// A law: a program passes every check.
 fn is_program(program: &Program)
     ensures { IsProgram program.now }

@@ -1,13 +1,14 @@
 -- The words of a rule file are those of one source.
 use Rattle.std.proofs.Common.{◌≡◌, ℕ, Bool, true, false, List, [], ◌∷◌, ◌++◌, refl, sym, ap, ◌∙◌, arith}
+use Rattle.std.specs.Prelude.{◌==◌}
 use Rattle.std.specs.List.{flat_map}
 use Rattle.rh_rule_source.specs.declared.word.Word.{Word}
 use Rattle.rh_rule_source.specs.declared.source.SourceItem.{SourceItem}
 use Rattle.rh_rule_source.specs.declared.source.SourceItem.TheVariants.{Fact as FactItem, Rule as RuleItem}
 use Rattle.rh_rule_source.specs.declared.source.SourceFile.{SourceFile}
-use Rattle.rh_rule_source.specs.Grammar.{FACT, RULE}
+use Rattle.rh_rule_source.specs.Grammar.{FACT, RHODIUM, RULE}
 use Rattle.rh_rule_source.specs.Source.{item_words, header_words, file_words}
-use Rattle.rh_rule_source.specs.Header.{begins_headed}
+use Rattle.rh_rule_source.specs.Words.{class_of}
 use Rattle.rh_rule_source.proofs.OneWay.{OneWay, NoneBegins, first_class, other_words, one_repeated}
 use Rattle.rh_rule_source.proofs.OneFact.{one_fact}
 use Rattle.rh_rule_source.proofs.OneRule.{one_rule}
@@ -35,8 +36,12 @@ no_item : NoneBegins item_words []
 no_item (FactItem fact) ws e = absurd cc
 no_item (RuleItem rule) ws e = absurd cc
 
--- the first word tells whether there is a header
-pub header_told : (headed : Bool) (items : List SourceItem) → begins_headed (header_words headed ++ flat_map item_words items) ≡ headed
+-- whether words begin with the header, which the first word tells, since no fact and no rule begins with it
+abbrev begins_headed : List Word → Bool
+begins_headed [] = false
+begins_headed (word ∷ words) = class_of word == RHODIUM
+
+header_told : (headed : Bool) (items : List SourceItem) → begins_headed (header_words headed ++ flat_map item_words items) ≡ headed
 header_told true items = refl
 header_told false [] = refl
 header_told false (FactItem fact ∷ items) = refl

@@ -3,5 +3,4 @@ pub mod Grammar
 pub mod Cursor
 pub mod Source
 pub mod Lists
-pub mod Header
 pub mod Spelling

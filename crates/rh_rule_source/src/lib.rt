@@ -5,12 +5,10 @@
 mod build;
 mod cursor;
 mod grammar;
-mod header;
 mod source;
 mod syntax;
 mod word;
 
-pub use header::begins_headed;
 pub use source::{
     Relation, SourceAtom, SourceBase, SourceConclusion, SourceCond, SourceFact, SourceFile,
     SourceForm, SourceItem, SourceOperand, SourceOperation, SourceParam, SourcePattern,

@@ -3,13 +3,11 @@
 
 mod fault;
 mod file;
-mod header;
 mod printer;
 mod reader;
 mod resolve;
 mod unknown;
 
 pub use fault::RulesFault;
-pub use header::has_header;
 pub use printer::print_rules;
 pub use reader::{read_rules, rule_texts_have_one_answer};

@@ -1,6 +1,6 @@
 //! Texts of rule files, and the fault of each that is not a text of one.
 use rh_rule::{Item, Many, RuleFault, RuleFile, RuleWrong};
-use rh_rule_text::{RulesFault, has_header, read_rules};
+use rh_rule_text::{RulesFault, read_rules};
 use rh_text::{LexFault, TEXT_LIMIT};
 use std::alloc::{AllocError, Global};
 use std::test::Fail;
@@ -265,21 +265,4 @@ fn accepted(rt: HostRuntime) -> Result<(), Fail> {
         assert_eq!(rt; file.rules().len(), rules, "at {text:?}");
     }
     Ok(())
-}
-
-#[test]
-fn header(rt: HostRuntime) {
-    let cases: [(&[u8], Result<bool, RulesFault>); 4] = [
-        (b"", Ok(false)),
-        (b" # first\n rhodium 1;", Ok(true)),
-        (
-            b"rule q() { skip => transform skip } # rhodium 1;",
-            Ok(false),
-        ),
-        (b"rhodium 1; ?", Err(RulesFault::Lex(LexFault::BadByte(11)))),
-    ];
-    for (text, want) in cases {
-        assert!(rt; text.len() <= TEXT_LIMIT);
-        assert_eq!(rt; has_header(rt.alloc(), text), want, "at {text:?}");
-    }
 }

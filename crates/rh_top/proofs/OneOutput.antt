@@ -12,8 +12,10 @@ use Rattle.rh_domain.specs.declared.fact.FactAt.{FactAt}
 use Rattle.rh_domain.specs.Facts.{Known}
 use Rattle.rh_ground.specs.Rows.{IsGreatest}
 use Rattle.rh_oblig.specs.Ruling.{IsRuling}
+use Rattle.rh_report.specs.Counts.{counts_text}
 use Rattle.rh_report.specs.Output.{IsOutput, opt_text}
 use Rattle.rh_top.specs.One.{HasOneOutput}
+use Rattle.rh_top.specs.Result.{IsCounted}
 
 one_rulings : (schemas : List Schema) (rules : List Rule) (one other : List Ruling) → AllZip (IsRuling schemas) rules one → AllZip (IsRuling schemas) rules other → one ≡ other
 one_rulings schemas [] [] [] first second = refl
@@ -44,5 +46,15 @@ one_text file procs text other first second =
     let known : first.known ≡ second.known = one_set file.rules second.rulings procs first.known second.known moved second.greatest in
     first.text_is ∙ (λ i. opt_text file (rulings i) (known i) procs) ∙ sym second.text_is
 
-pub one_output : HasOneOutput
-one_output file procs text other first second = one_text file procs text other first.output second.output
+one_count : (file : Rules) (procs : List Proc) (text other : List ℕ) → IsCounted file procs text → IsCounted file procs other → text ≡ other
+one_count file procs text other first second =
+    let rulings : first.rulings ≡ second.rulings = one_rulings file.schemas file.rules first.rulings second.rulings first.ruled second.ruled in
+    let moved : IsGreatest file.rules second.rulings procs first.known = subst (λ r. IsGreatest file.rules r procs first.known) rulings first.greatest in
+    let known : first.known ≡ second.known = one_set file.rules second.rulings procs first.known second.known moved second.greatest in
+    first.text_is ∙ (λ i. counts_text file (rulings i) (known i) procs) ∙ sym second.text_is
+
+pub one_output : (file : Rules) (procs : List Proc) → HasOneOutput file procs
+one_output file procs = record {
+  opt = λ text other first second. one_text file procs text other first.output second.output;
+  gen = one_count file procs;
+}

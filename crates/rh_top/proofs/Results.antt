@@ -1,9 +1,10 @@
 -- What `opt` prints is its result.
-use Rattle.std.proofs.Common.{ℕ, zero, suc, ◌≡◌, List, [], ◌∷◌, ◌++◌, map, length, Some, None, Result, Ok, Err, refl, ap, sym, subst, ◌∙◌}
+use Rattle.std.proofs.Common.{ℕ, zero, suc, ◌≡◌, List, [], ◌∷◌, ◌++◌, map, length, Option, None, Result, Ok, Err, Vec, Global, refl, ap, sym, subst, ◌∙◌}
 use Rattle.std.specs.List.{AllZip}
-use Rattle.std.specs.Prelude.{IfOk, slice_get}
+use Rattle.std.specs.Prelude.{IfOk}
 use Rattle.rh_list.specs.Each.{Each}
 use Rattle.rh_admit.specs.Rules.{IsTold}
+use Rattle.rh_args.specs.declared.command.Command.{Command}
 use Rattle.rh_il.specs.declared.program.Proc.{Proc}
 use Rattle.rh_il.specs.Checks.{IsProgram}
 use Rattle.rh_il.specs.Numbers.{HasNumbers}
@@ -27,9 +28,12 @@ use Rattle.rh_ground.proofs.Greatest.{greatest_is_supported}
 use Rattle.rh_lift.specs.Standing.{AreSound, IsProvedSet}
 use Rattle.rh_lift.proofs.WholeRuns.{facts_hold_in_runs, returns_kept}
 use Rattle.rh_report.specs.Output.{fact_lines, rule_lines}
+use Rattle.rh_report.specs.declared.status.Status.{Status}
 use Rattle.rh_transform.specs.Rewritten.{rewritten}
+use Rattle.rh_top.specs.Outputs.{IsMade}
+use Rattle.rh_top.specs.Requests.{request_of}
 use Rattle.rh_top.specs.Result.{IsResult}
-use Rattle.rh_top.specs.Steps.{HaveFewTerms}
+use Rattle.rh_audit.specs.Audit.{HaveFewTerms}
 
 -- ---- rulings
 
@@ -107,3 +111,15 @@ module _ (file : Rules) (procs : List Proc) (is_file : IsRuleFile file) (program
 pub of_ok : {T E : Type 0} (P Q R : T → Type 0) (result : Result T E) → ((x : T) → P x → Q x → R x) → IfOk result P → IfOk result Q → IfOk result R
 of_ok P Q R (Ok x) leads first second = leads x first second
 of_ok P Q R (Err e) leads first second = first
+
+-- what is known of an answer
+pub of_one : {T E : Type 0} (P Q : T → Type 0) (result : Result T E) → ((x : T) → P x → Q x) → IfOk result P → IfOk result Q
+of_one P Q (Ok x) leads known = leads x known
+of_one P Q (Err e) leads known = known
+
+-- the output of a command that is known
+pub made_by : (holds : List ℕ → Option (List ℕ)) (before after : List ℕ → ℕ) (command known : Command) (result : Result (Vec ℕ Global) Status) → command ≡ known
+    → IfOk result (λ text. IsMade (record { holds = holds; faults_before = before; faults_after = after }) (request_of known) text.items)
+    → IfOk result (λ text. IsMade (record { holds = holds; faults_before = before; faults_after = after }) (request_of command) text.items)
+made_by holds before after command known result is made =
+    subst (λ c. IfOk result (λ text. IsMade (record { holds = holds; faults_before = before; faults_after = after }) (request_of c) text.items)) (sym is) made

@@ -1,8 +1,11 @@
-pub mod Status
 pub mod Call
+pub mod Requests
 pub mod Files
-pub mod Steps
+pub mod Counts
 pub mod Result
+pub mod Outputs
+pub mod Refusals
 pub mod Ends
 pub mod Complete
 pub mod One
+pub mod Faults

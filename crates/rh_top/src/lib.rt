@@ -1,20 +1,23 @@
 //! The top call: one command line, done over a shelf and a sink.
 #![tactic(auto)]
 
+mod audited;
+mod facts;
 mod input;
 mod opt;
-mod status;
+mod ran;
+mod ruled;
 mod top;
 
+ghost use Rattle.std.specs.Prelude.{List};
+ghost use Rattle.rh_il.specs.declared.program.Proc.{Proc};
+ghost use Rattle.rh_rule.specs.RuleFiles.{Rules};
 ghost use Rattle.rh_top.specs.One.{HasOneOutput};
 
-pub use status::{Large, Part, Status, refusal_line};
 pub use top::rhodium;
 
-/// A rule file and a program have one output: the same for every number of workers, and however they interleave.
+/// A rule file and a program have one output by `opt`, and one by `gen`: the same for every number of workers, and
+/// however they interleave.
 pub fn outputs_are_one()
-    ensures { HasOneOutput }
+    ensures { (file : Rules) (procs : List Proc) → HasOneOutput file procs }
 {}
-
-#[cfg(test)]
-mod tests;

@@ -1,138 +1,27 @@
-//! The command `opt`.
-ghost use Rattle.std.specs.Prelude.{◌≡◌, ◌<◌, ◌≤◌, map, IfErr, IfOk, OnOk};
-ghost use Rattle.std.specs.List.{AllZip};
-ghost use Rattle.rh_il.specs.Checks.{IsProgram};
-ghost use Rattle.rh_log.specs.Admission.{ruling_of};
-ghost use Rattle.rh_oblig.specs.Ruling.{IsRuling};
-ghost use Rattle.rh_rule.specs.RuleFiles.{IsRuleFile};
-ghost use Rattle.rh_top.specs.Ends.{Ends, IsMade, IsRefused};
-ghost use Rattle.rh_top.specs.Result.{IsResult};
-ghost use Rattle.rh_top.specs.Steps.{HaveFewTerms, HaveRoom, RefusesCounts, RefusesTerms, of_admit, of_layout};
+//! Rule files and programs together: the commands `opt` and `gen`.
+ghost use Rattle.std.specs.Prelude.{◌≡◌, ◌<◌, ◌≤◌, Some, IfErr, IfOk, OnOk};
+ghost use Rattle.rh_gen.specs.Generated.{generated};
+ghost use Rattle.rh_gen.specs.Standard.{standard_rules};
+ghost use Rattle.rh_il_text.specs.Text.{program_text};
+ghost use Rattle.rh_top.specs.Call.{file, made};
+ghost use Rattle.rh_audit.specs.Audit.{HaveFewTerms};
+ghost use Rattle.rh_top.specs.Counts.{HaveRoom, RefusesCounts};
+ghost use Rattle.rh_top.specs.Outputs.{IsOfBoth};
+ghost use Rattle.rh_top.specs.Refusals.{RefusedOfBoth};
+ghost use Rattle.rh_top.specs.Result.{IsCounted, IsResult};
 
-use crate::input::{program_in, rules_in};
-use crate::status::{Large, Status};
-use rh_admit::{AdmitFault, admit};
-use rh_engine::solve;
-use rh_il::{Program, numbers_fit};
-use rh_layout::LayoutFault;
-use rh_log::Admission;
-use rh_outside::{Gate, Shelf, Sink, write_whole};
-use rh_report::report;
-use rh_rows::Ground;
-use rh_rule::{RuleFile, Ruling};
-use rh_transform::rewrite;
-use std::alloc::{AllocError, Global};
+use crate::facts::{counts_of, grounded, result_of};
+use crate::input::{made_program, made_rules, program_in, rules_in};
+use rh_gen::generate;
+use rh_il::Program;
+use rh_outside::{Gate, Shelf};
+use rh_report::Status;
+use rh_rule::RuleFile;
+use std::alloc::Global;
 use std::thread::Threads;
 
-/// What the words of `opt` say: how many workers there are, and the names of the two files.
-#[derive(Clone, Copy)]
-pub(crate) struct OptWords<'w> {
-    pub(crate) workers: u32,
-    pub(crate) rules: &'w str,
-    pub(crate) program: &'w str,
-}
-
-fn rulings_of(alloc: Global, admissions: &[Admission]) -> Result<Vec<Ruling>, AllocError>
-    ensures { IfOk result (λ rulings. rulings.items ≡ map ruling_of admissions.now) }
-{
-    let mut rulings = Vec::with_capacity(alloc, admissions.len())?;
-    for admission in admissions {
-        rulings.push(admission.ruling())?;
-    }
-    Ok(rulings)
-}
-
-fn of_admit(fault: AdmitFault) -> Status
-    ensures { result ≡ of_admit fault }
-{
-    match fault {
-        AdmitFault::TooManyTerms { rule, count } => Status::TooLarge(Large::Terms { rule, count }),
-        AdmitFault::NoMemory => Status::NoMemory,
-    }
-}
-
-fn of_layout(fault: LayoutFault) -> Status
-    ensures { result ≡ of_layout fault }
-{
-    match fault {
-        LayoutFault::TooManyFacts { proc, count } => Status::TooLarge(Large::Facts { proc, count }),
-        LayoutFault::TooManyWords(count) => Status::TooLarge(Large::Words { count }),
-        LayoutFault::NoMemory => Status::NoMemory,
-    }
-}
-
-/// The rulings on the rules of a file.
-fn ruled(alloc: Global, file: &RuleFile) -> Result<Vec<Ruling>, Status>
-    ensures few_terms { OnOk result (HaveFewTerms file.now) }
-    ensures ruled { IfOk result (λ rulings. AllZip (IsRuling file.now.schemas) file.now.rules rulings.items) }
-    ensures refused { IfErr result (RefusesTerms file.now) }
-{
-    match admit(alloc, file) {
-        Ok(admissions) => match rulings_of(alloc, admissions.as_slice()) {
-            Ok(rulings) => Ok(rulings),
-            Err(_) => Err(Status::NoMemory),
-        },
-        Err(fault) => Err(of_admit(fault)),
-    }
-}
-
-/// A rule file with its rulings and a program, with the bits of the program's facts.
-fn grounded(alloc: Global, file: &RuleFile, program: &Program) -> Result<Ground, Status>
-    ensures file { IfOk result (λ ground. ground.file ≡ file.now) }
-    ensures program { IfOk result (λ ground. ground.program ≡ program.now) }
-    ensures ruled { IfOk result (λ ground. AllZip (IsRuling file.now.schemas) file.now.rules ground.rulings) }
-    ensures few_terms { OnOk result (HaveFewTerms file.now) }
-    ensures room { OnOk result (HaveRoom file.now program.now) }
-    ensures refused { IfErr result (RefusesCounts file.now program.now) }
-{
-    let rulings = match ruled(alloc, file) {
-        Ok(rulings) => rulings,
-        Err(status) => return Err(status),
-    };
-    match Ground::new(alloc, file, rulings.as_slice(), program) {
-        Ok(ground) => Ok(ground),
-        Err(fault) => Err(of_layout(fault)),
-    }
-}
-
-/// A law: a rule file passes every check.
-fn is_rule_file(file: &RuleFile)
-    ensures { IsRuleFile file.now }
-{
-    let _rules = file.rules();
-}
-
-/// A law: a program passes every check.
-fn passes_checks(program: &Program)
-    ensures { IsProgram program.now }
-{
-    let _count = program.count();
-}
-
-/// The output, given the facts that there may be and the rulings.
-fn text_of<R: Threads + Sync, G: Gate + Sync>(
-    rt: &R,
-    alloc: Global,
-    ground: &Ground,
-    workers: u32,
-    gate: &G,
-) -> Result<Vec<u8>, AllocError>
-    requires some { 0 < workers }
-    requires few { workers ≤ 16 }
-    requires ruled { AllZip (IsRuling ground.now.file.schemas) ground.now.file.rules ground.now.rulings }
-    ensures { IfOk result (λ text. IsResult ground.now.file ground.now.program text.items) }
-{
-    is_rule_file(ground.file());
-    numbers_fit(ground.program());
-    passes_checks(ground.program());
-    let solved = solve(rt, alloc, ground, workers, gate)?;
-    let words = solved.words.as_slice();
-    let rewritten = rewrite(alloc, ground, words)?;
-    report(alloc, ground, words, &rewritten)
-}
-
-/// The output for a rule file and a program.
-fn output_of<R: Threads + Sync, G: Gate + Sync>(
+/// The output of `opt` for a rule file and a program.
+fn optimised<R: Threads + Sync, G: Gate + Sync>(
     rt: &R,
     alloc: Global,
     file: &RuleFile,
@@ -147,57 +36,74 @@ fn output_of<R: Threads + Sync, G: Gate + Sync>(
     ensures result { IfOk result (λ text. IsResult file.now program.now text.items) }
     ensures refused { IfErr result (RefusesCounts file.now program.now) }
 {
-    match grounded(alloc, file, program) {
-        Ok(ground) => match text_of(rt, alloc, &ground, workers, gate) {
-            Ok(text) => Ok(text),
-            Err(_) => Err(Status::NoMemory),
-        },
-        Err(status) => Err(status),
-    }
+    let ground = grounded(rt, alloc, file, program)?;
+    Ok(result_of(rt, alloc, &ground, workers, gate)?)
 }
 
-/// The output for the files that the words name.
-fn made<R: Threads + Sync, S: Shelf, G: Gate + Sync>(
+/// The output of `gen` for a rule file and a program.
+fn counted<R: Threads + Sync, G: Gate + Sync>(
     rt: &R,
     alloc: Global,
-    words: OptWords<'_>,
+    file: &RuleFile,
+    program: &Program,
+    workers: u32,
+    gate: &G,
+) -> Result<Vec<u8>, Status>
+    requires some { 0 < workers }
+    requires few { workers ≤ 16 }
+    ensures few_terms { OnOk result (HaveFewTerms file.now) }
+    ensures room { OnOk result (HaveRoom file.now program.now) }
+    ensures result { IfOk result (λ text. IsCounted file.now program.now text.items) }
+    ensures refused { IfErr result (RefusesCounts file.now program.now) }
+{
+    let ground = grounded(rt, alloc, file, program)?;
+    Ok(counts_of(rt, alloc, &ground, workers, gate)?)
+}
+
+/// Proves the rules of a file, computes the facts of a program, and rewrites it.
+pub(crate) fn opt<R: Threads + Sync, S: Shelf, G: Gate + Sync>(
+    rt: &R,
+    alloc: Global,
+    workers: u32,
+    rules: &str,
+    program: &str,
     shelf: &mut S,
     gate: &G,
 ) -> Result<Vec<u8>, Status>
-    requires some { 0 < words.workers }
-    requires few { words.workers ≤ 16 }
-    ensures made { IfOk result (λ text. IsMade (record { holds = S.holds shelf.old; faults_before = S.faults shelf.old; faults_after = S.faults shelf.new }) words.entry.rules.now words.entry.program.now text.items) }
-    ensures refused { IfErr result (IsRefused (record { holds = S.holds shelf.old; faults_before = S.faults shelf.old; faults_after = S.faults shelf.new }) words.entry.rules.now words.entry.program.now) }
+    requires some { 0 < workers }
+    requires few { workers ≤ 16 }
+    ensures made { IfOk result (λ text. IsOfBoth IsResult (S.holds shelf.old rules.now) (S.holds shelf.old program.now) text.items) }
+    ensures refused { IfErr result (RefusedOfBoth
+        (file (record { holds = S.holds shelf.old; faults_before = S.faults shelf.old; faults_after = S.faults shelf.new }) rules.now)
+        (file (record { holds = S.holds shelf.old; faults_before = S.faults shelf.old; faults_after = S.faults shelf.new }) program.now)) }
 {
-    let file = rules_in(alloc, shelf, words.rules)?;
-    let program = program_in(alloc, shelf, words.program)?;
-    match output_of(rt, alloc, &file, &program, words.workers, gate) {
+    let file = rules_in(alloc, shelf, rules)?;
+    let program = program_in(alloc, shelf, program)?;
+    match optimised(rt, alloc, &file, &program, workers, gate) {
         Ok(text) => Ok(text),
         Err(status) => Err(status),
     }
 }
 
-/// Proves the rules, computes the facts, rewrites the program and writes the output. The whole output is made
-/// before its first byte is offered.
-pub(crate) fn opt<R: Threads + Sync, S: Shelf, K: Sink, G: Gate + Sync>(
+/// Does the work of `opt` on a made program with the standard rules, and counts what comes of it.
+pub(crate) fn generate_and_count<R: Threads + Sync, G: Gate + Sync>(
     rt: &R,
     alloc: Global,
-    words: OptWords<'_>,
-    shelf: &mut S,
-    out: &mut K,
+    workers: u32,
+    n: u32,
     gate: &G,
-) -> Status
-    requires some { 0 < words.workers }
-    requires few { words.workers ≤ 16 }
-    ensures { Ends (record { holds = S.holds shelf.old; faults_before = S.faults shelf.old; faults_after = S.faults shelf.new })
-        (record { written_before = K.written out.old; written_after = K.written out.new; sunk_before = K.faults out.old; sunk_after = K.faults out.new })
-        words.entry.rules.now words.entry.program.now result }
+) -> Result<Vec<u8>, Status>
+    requires some { 0 < workers }
+    requires few { workers ≤ 16 }
+    requires small { n ≤ 255 }
+    ensures made { IfOk result (λ text. IsOfBoth IsCounted (Some standard_rules) (Some (program_text (generated n))) text.items) }
+    ensures refused { IfErr result (RefusedOfBoth (made standard_rules) (made (program_text (generated n)))) }
 {
-    match made(rt, alloc, words, shelf, gate) {
-        Ok(text) => match write_whole(out, text.as_slice()) {
-            Ok(()) => Status::Done,
-            Err(count) => Status::WriteFault(count as u64),
-        },
-        Err(status) => status,
+    let (rules, program) = generate(alloc, n)?;
+    let file = made_rules(alloc, rules.as_slice())?;
+    let program = made_program(alloc, program.as_slice())?;
+    match counted(rt, alloc, &file, &program, workers, gate) {
+        Ok(text) => Ok(text),
+        Err(status) => Err(status),
     }
 }

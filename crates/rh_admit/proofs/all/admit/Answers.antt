@@ -1,23 +1,18 @@
-use Rattle.std.proofs.Common.{◌<◌, List, Err, ◌+◌, take, length, ap, refl, arith, sym, subst, ◌∙◌}
+use Rattle.std.proofs.Common.{◌≡◌, Ok, map}
 use Rattle.std.specs.List.{AllZip}
-use Rattle.rh_log.specs.declared.log.Admission.{Admission}
-use Rattle.rh_admit.specs.Rules.{IsFirstExcess, IsTold}
-use Rattle.rh_admit.proofs.Telling.{first_excess_at, same_fault, tells, told_more}
+use Rattle.rayon.proofs.ListFacts.{IfOk-then}
+use Rattle.rh_admit.specs.Rules.{IsTold}
+use Rattle.rh_admit.proofs.Answered.{excess_first, told_all}
 use Rattle.rh_admit.proofs.all.admit.Goals as goal
 
-pub returns-in-Err-clause-too_many : goal.returns-in-Err-clause-too_many
-returns-in-Err-clause-too_many c = λ rule count e.
+pub returns-clause-told : goal.returns-clause-told
+returns-clause-told g c =
     let file = c.args.file.now in
-    let number = c.loop-number.number in
-    let within : number < length file.rules = omega arith in
-    let told = tells number rule count c.in-Err.fault (sym c.fault_of.ensures ∙ same_fault _ _ _ _ refl refl e) in
-    subst (λ n. IsFirstExcess file.schemas file.rules n count) told.rule_is
-    (first_excess_at file.schemas file.rules number c.loop-number.made.items count within c.loop-number.invariant (c.in-Err.ensures.too_many count (ap Err told.fault_is)))
+    let answers = c.in_ok-answers.answers.items in
+    IfOk-then c.admissions_in.result (λ made. answers ≡ map Ok made.items) (λ made. AllZip (IsTold file.schemas) file.rules made.items)
+    c.admissions_in.ensures.admissions (λ made are. told_all file answers made.items c.in_ok-answers.ensures are)
 
-pub loop-number-preserved : goal.loop-number-preserved
-loop-number-preserved c =
+pub returns-clause-too_many : goal.returns-clause-too_many
+returns-clause-too_many g c = λ rule count is.
     let file = c.args.file.now in
-    let number = c.loop-number.number in
-    let within : number < length file.rules = omega arith in
-    subst (λ (made : List Admission). AllZip (IsTold file.schemas) (take (number + 1) file.rules) made) (sym c.in_ok-push-in-Ok.ensures.items)
-    (told_more file.schemas file.rules number c.loop-number.made.items c.in-Ok.admission within c.loop-number.invariant c.in-Ok.ensures.told)
+    excess_first file c.in_ok-answers.answers.items rule count c.in_ok-answers.ensures (c.admissions_in.ensures.fault rule count is)

@@ -1,9 +1,23 @@
-use Rattle.std.proofs.Common.{◌≡◌, sym, subst}
-use Rattle.std.specs.Prelude.{IfSome}
-use Rattle.rh_top.specs.declared.status.Part.TheVariants.{Program}
-use Rattle.rh_top.specs.Files.{SpellNoProgram}
-use Rattle.rh_top.proofs.Refusing.{text_refused}
+use Rattle.std.proofs.Common.{◌≤◌, length, sym, subst}
+use Rattle.std.proofs.lemmas.Result.{err_from_is_err_and}
+use Rattle.rh_report.specs.declared.status.Part.TheVariants.{Program}
+use Rattle.rh_top.specs.Call.{MayBe}
+use Rattle.rh_top.specs.Files.{RefusesProgramText, most_bytes, unread}
+use Rattle.rh_top.proofs.Refusing.{program_accepted, refused_by_text}
 use Rattle.rh_top.proofs.input.program_in.Goals as goal
 
+pub returns-clause-read : goal.returns-clause-read
+returns-clause-read g c =
+    program_accepted (g.S.Shelf.holds c.args.shelf.now c.args.name.now) c.as_slice.result.now c.spelled_program.result
+    (subst (MayBe (g.S.Shelf.holds c.args.shelf.now c.args.name.now)) (sym c.as_slice.ensures.value) c.in_ok-bytes.ensures.told) c.spelled_program.ensures.spelled
+
 pub returns-clause-refused : goal.returns-clause-refused
-returns-clause-refused g c = text_refused Program _ _ c.as_slice.result.now SpellNoProgram c.spelled_program.result (subst (λ bytes. IfSome (g.S.Shelf.holds c.args.shelf.now c.args.name.now) (λ held. bytes ≡ held)) (sym c.as_slice.ensures.value) c.in_ok-bytes.ensures.bytes) c.spelled_program.ensures.refused
+returns-clause-refused g c =
+    refused_by_text Program most_bytes RefusesProgramText _ c.as_slice.result.now c.spelled_program.result
+    (subst (MayBe (g.S.Shelf.holds c.args.shelf.now c.args.name.now)) (sym c.as_slice.ensures.value) c.in_ok-bytes.ensures.told)
+    (subst (λ bytes. length bytes ≤ most_bytes) (sym c.as_slice.ensures.value) c.in_ok-bytes.ensures.within) c.spelled_program.ensures.refused
+
+pub returns-in_err-bytes-clause-refused : goal.returns-in_err-bytes-clause-refused
+returns-in_err-bytes-clause-refused g c =
+    let told = err_from_is_err_and c.from_residual.result c.from_residual.ensures.1 in
+    rw (told.1, told.2) (unread c.in_err-bytes.ensures.refused)

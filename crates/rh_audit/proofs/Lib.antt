@@ -1,0 +1,9 @@
+pub mod Distinct
+pub mod Rising
+pub mod Locating
+pub mod Passing
+pub mod Firsts
+pub mod Marks
+pub mod LinesOf
+pub mod Proving
+pub mod Sections

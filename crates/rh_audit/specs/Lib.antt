@@ -1,0 +1,4 @@
+pub mod Faults
+pub mod Audit
+pub mod Proofs
+pub mod Walk

@@ -1,0 +1,5 @@
+pub mod Numbered
+pub mod Fitting
+pub mod Checked
+pub mod Programs
+pub mod Made

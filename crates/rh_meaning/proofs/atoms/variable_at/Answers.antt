@@ -1,0 +1,11 @@
+use Rattle.rh_term.specs.declared.term.Term.TheVariants.{Addr}
+use Rattle.rh_meaning.specs.Tree.{Leaf}
+use Rattle.rh_meaning.proofs.Put.{select_put}
+use Rattle.rh_meaning.proofs.Steps.{ok_with}
+use Rattle.rh_meaning.proofs.atoms.variable_at.Goals as goal
+
+pub returns-clause-put : goal.returns-clause-put
+returns-clause-put c =
+    ok_with _ _ c.put-2.result
+    (λ place put tree stands. select_put c.args.terms.now c.put.new.terms c.put-2.new.terms tree (Leaf (Addr c.args.meta)) c.args.store c.in_ok-address.address place stands c.in_ok-address.ensures.put put)
+    c.put-2.ensures.put
