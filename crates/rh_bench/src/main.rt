@@ -1,6 +1,7 @@
 //! Times parts of the product, for the scripts in `bench/`. The words of the command line are one of
 //!
-//!     solver LAYERS WORDS    solves a system in layers of words, by one thread and by workers
+//!     solver LAYERS WORDS    solves systems in layers of words, by one thread and by workers
+//!     facts RULES PROGRAM    solves the facts of a program, as all its bits and as candidates alone
 //!     rules FILE             reads a rule file and proves its rules, by one thread and by several
 //!     program FILE           reads a program
 //!     hard SPLITS            refutes an obligation of 512 terms that is made to be hard
@@ -8,62 +9,32 @@
 //! What came of it goes to standard output, and times go to standard error.
 #![tactic(auto)]
 
+mod facts;
 mod hard;
 mod layers;
 mod rounds;
+mod runs;
+mod solver;
 mod texts;
 
 ghost use Rattle.std.specs.Prelude.{◌≤◌, length};
 
+use facts::time_facts;
 use hard::{hard_obligation, is_small};
-use layers::Layers;
 use rh_admit::{admit, admit_rule};
-use rh_engine::solve;
 use rh_il_text::read_program;
 use rh_log::Admission;
 use rh_oblig::ObligFault;
-use rh_outside::OpenGate;
 use rh_refuter::{Verdict, refute};
 use rh_rule::RuleFile;
 use rh_rule_text::read_rules;
-use rh_system::greatest;
-use rounds::rounds;
+use solver::time_solver;
 use std::alloc::{AllocError, Global};
 use std::rt::Clock;
 use std::thread::Threads;
 use std::time::Instant;
 use std::{env, io};
 use texts::text_of;
-
-/// Solves a system in layers.
-fn time_solver<R: Threads + Print + Eprint + Clock + Sync>(
-    rt: &R,
-    alloc: Global,
-    depth: u32,
-    width: u32,
-) -> io::Result<()> {
-    let Some(system) = Layers::new(width, depth) else {
-        println!(rt; "too many words")?;
-        return Ok(());
-    };
-    let start = Instant::now(rt)?;
-    let words = greatest(alloc, &system)?;
-    let taken = start.elapsed(rt)?.as_millis();
-    println!(rt; "{} words by one thread", words.len())?;
-    eprintln!(rt; "  {taken} ms, {} rounds", rounds(alloc, &system)?)?;
-    for workers in [1u32, 2, 4] {
-        let start = Instant::now(rt)?;
-        let solved = solve(rt, alloc, &system, workers, &OpenGate)?;
-        let taken = start.elapsed(rt)?.as_millis();
-        let same = solved.words.as_slice() == words.as_slice();
-        println!(rt;
-            "{} bits cleared with workers: {workers}, the same words: {same}",
-            solved.cleared
-        )?;
-        eprintln!(rt; "  {taken} ms, {} turns", solved.turns)?;
-    }
-    Ok(())
-}
 
 /// How many rules are admitted.
 fn admitted(admissions: &[Admission]) -> usize {
@@ -187,6 +158,11 @@ fn main(rt: HostRuntime) -> io::Result<()> {
     let second = words.next();
     match kind.as_deref() {
         Some("solver") => time_solver(&rt, rt.alloc(), number(&first), number(&second)),
+        Some("facts") => {
+            let rules = text_of(&rt, first.as_deref());
+            let program = text_of(&rt, second.as_deref());
+            time_facts(&rt, rt.alloc(), rules.as_slice(), program.as_slice())
+        }
         Some("rules") => {
             let text = text_of(&rt, first.as_deref());
             time_rules(&rt, rt.alloc(), text.as_slice())

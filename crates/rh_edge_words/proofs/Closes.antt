@@ -18,7 +18,7 @@ use Rattle.rh_core.proofs.Lists.{by_place, two_of}
 use Rattle.rh_edge_words.specs.declared.view.View.{View}
 use Rattle.rh_edge_words.specs.Meaning.{Meaning}
 use Rattle.rh_edge_words.specs.Views.{worker_of, spent_view}
-use Rattle.rh_edge_words.specs.Rule.{core_of, KeepsTable}
+use Rattle.rh_edge_words.specs.Rule.{system_words, core_of, KeepsTable}
 use Rattle.rh_edge_words.specs.Seated.{ArePartsOf}
 use Rattle.rh_edge_words.proofs.Counts.{over, over_same, over_sum, ones_over}
 use Rattle.rh_edge_words.proofs.Tables.{at_view, worker_is, live_at}
@@ -68,12 +68,12 @@ module _ {S : Type 0} (m : Meaning) (s : State S View) (id : ℕ) (v : View) (ke
         | inr past ↦ ap (λ (u : View). u.stake) (get_or_past s.views j spent_view past)
       ]
 
-  other_spent : (j : ℕ) → j ≢ id → (worker_at (core_of s) j).credits ≡ []
+  other_spent : (j : ℕ) → j ≢ id → (worker_at (core_of m.full s) j).credits ≡ []
   other_spent j differs =
       elim (cases_lt j (length s.views)) [
         | inl inside ↦
-            let is : worker_at (core_of s) j ≡ worker_of (get_or s.views j spent_view) = get_or-map worker_of s.views j spent_view spent inside in
-            let off : (worker_at (core_of s) j).live ≡ false = ap (λ (w : WorkerState). w.live) is ∙ ap (λ (n : ℕ). Rattle.std.proofs.Common.nat_lt 0 n) (no_stake j differs) in
+            let is : worker_at (core_of m.full s) j ≡ worker_of (get_or s.views j spent_view) = get_or-map worker_of s.views j spent_view spent inside in
+            let off : (worker_at (core_of m.full s) j).live ≡ false = ap (λ (w : WorkerState). w.live) is ∙ ap (λ (n : ℕ). Rattle.std.proofs.Common.nat_lt 0 n) (no_stake j differs) in
             (kept.core.spent j off).1
         | inr past ↦
             let long : length (map worker_of s.views) ≡ length s.views = Rattle.std.proofs.lemmas.List.length-map s.views worker_of in
@@ -81,34 +81,34 @@ module _ {S : Type 0} (m : Meaning) (s : State S View) (id : ℕ) (v : View) (ke
       ]
 
   -- each full bit is in the word or in the credits of this seat
-  shared_out : (k place : ℕ) → place < 64 → bit_at (get_or s.words k 0) place + bit_at (get_or v.credits k 0) place ≡ bit_at (get_or m.full k 0) place
+  shared_out : (k place : ℕ) → place < 64 → bit_at (get_or (system_words m.full s.words) k 0) place + bit_at (get_or v.credits k 0) place ≡ bit_at (get_or m.full k 0) place
   shared_out k place small =
       let f : WorkerState → ℕ = λ x. bit_at (get_or x.credits k 0) place in
       let ws : List WorkerState = map worker_of s.views in
       let t = at_view s.views id v e in
       let long : length ws ≡ length s.views = Rattle.std.proofs.lemmas.List.length-map s.views worker_of in
       let inside : id < length s.views = t.0 in
-      let mine : sum_by f ws ≡ f (worker_at (core_of s) id) =
+      let mine : sum_by f ws ≡ f (worker_at (core_of m.full s) id) =
       only f ws id spent (omega arith) (bit_at-zero place) (λ j differs. ap (λ (c : List ℕ). bit_at (get_or c k 0) place) (other_spent j differs) ∙ bit_at-zero place) in
-      let is : f (worker_at (core_of s) id) ≡ bit_at (get_or v.credits k 0) place = ap f (worker_is s.words s.views id v e) in
-      let once : bit_at (get_or s.words k 0) place + sum_by f ws ≡ bit_at (get_or m.full k 0) place = kept.core.once k place small in
+      let is : f (worker_at (core_of m.full s) id) ≡ bit_at (get_or v.credits k 0) place = ap f (worker_is s.words s.views id v e) in
+      let once : bit_at (get_or (system_words m.full s.words) k 0) place + sum_by f ws ≡ bit_at (get_or m.full k 0) place = kept.core.once k place small in
       omega arith
 
-  -- where the seat has seen Greatest, the words are what it has seen
-  seen_last : IsGreatest m.rows v.seen → (k place : ℕ) → place < 64 → bit_at (get_or v.seen k 0) place ≡ bit_at (get_or s.words k 0) place
+  -- where the seat has seen Greatest, the words of the system are what it has seen
+  seen_last : IsGreatest m.rows v.seen → (k place : ℕ) → place < 64 → bit_at (get_or v.seen k 0) place ≡ bit_at (get_or (system_words m.full s.words) k 0) place
   seen_last greatest k place small =
       let live = live_at s.words s.views id v e (let w = whole in omega arith) in
       let sees = kept.core.seen id live in
       let is = worker_is s.words s.views id v e in
-      let le : bit_at (get_or s.words k 0) place ≤ bit_at (get_or v.seen k 0) place =
-      subst (λ (w : WorkerState). bit_at (get_or s.words k 0) place ≤ bit_at (get_or w.seen k 0) place) is (sees.within k place) in
+      let le : bit_at (get_or (system_words m.full s.words) k 0) place ≤ bit_at (get_or v.seen k 0) place =
+      subst (λ (w : WorkerState). bit_at (get_or (system_words m.full s.words) k 0) place ≤ bit_at (get_or w.seen k 0) place) is (sees.within k place) in
       let a = bit_at-lt (get_or v.seen k 0) place in
-      let b = bit_at-lt (get_or s.words k 0) place in
+      let b = bit_at-lt (get_or (system_words m.full s.words) k 0) place in
       elim (cases_eq (bit_at (get_or v.seen k 0) place) 1) [
         | inl set ↦
             let in_seen : IsTrue (bits_in v.seen (64 * k + place)) = bits_in_at v.seen k place small ∙ test_from_set _ set in
-            let in_words : IsTrue (bits_in s.words (64 * k + place)) = kept.core.greatest (64 * k + place) ((greatest (64 * k + place)).0 in_seen) in
-            let there : bit_at (get_or s.words k 0) place ≡ 1 = set_from_test (bit_at (get_or s.words k 0) place) (sym (bits_in_at s.words k place small) ∙ in_words) in
+            let in_words : IsTrue (bits_in (system_words m.full s.words) (64 * k + place)) = kept.core.greatest (64 * k + place) ((greatest (64 * k + place)).0 in_seen) in
+            let there : bit_at (get_or (system_words m.full s.words) k 0) place ≡ 1 = set_from_test (bit_at (get_or (system_words m.full s.words) k 0) place) (sym (bits_in_at (system_words m.full s.words) k place small) ∙ in_words) in
             omega arith
         | inr none ↦ omega arith
       ]

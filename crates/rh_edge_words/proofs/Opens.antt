@@ -1,18 +1,20 @@
 -- A new table and its seat.
-use Rattle.std.proofs.Common.{◌≡◌, ℕ, ◌^◌, ◌<◌, zero, suc, List, [], ◌∷◌, length, get_or, refl, sym, subst, arith}
+use Rattle.std.proofs.Common.{◌≡◌, ℕ, ◌^◌, ◌<◌, zero, suc, List, [], ◌∷◌, ◌++◌, length, get_or, refl, sym, subst, arith}
 use Rattle.std.specs.Int.RustNames.{count_ones}
 use Rattle.std.proofs.lemmas.List.{length-replicate}
+use Rattle.std.proofs.Math.Seq.{take-append_seam}
 use Rattle.std.proofs.lemmas.Nat.{pow_pos}
 use Rattle.atomic_table.specs.Table.{opening}
 use Rattle.rh_system.specs.declared.system.Row.{Row}
 use Rattle.rh_system.specs.Rows.{IsCovered}
 use Rattle.rh_system.proofs.OneRound.{full_holds}
+use Rattle.rh_core.specs.WordsLaw.{KeepsWords}
 use Rattle.rh_core.proofs.Lists.{by_copies, none_of_copies}
 use Rattle.rh_core.proofs.Keeps.{opening_keeps}
 use Rattle.rh_edge_words.specs.declared.view.View.{View}
 use Rattle.rh_edge_words.specs.Meaning.{Meaning}
 use Rattle.rh_edge_words.specs.Views.{first_view, spent_view}
-use Rattle.rh_edge_words.specs.Rule.{IsTallied, KeepsTable}
+use Rattle.rh_edge_words.specs.Rule.{core_with, IsTallied, KeepsTable}
 use Rattle.rh_edge_words.proofs.Tallies.{none_bits, spent_tallied}
 use Rattle.rh_edge_words.specs.Seated.{IsSeat}
 
@@ -28,9 +30,9 @@ tallied_at : (full : List ℕ) (id : ℕ) → IsTallied full (get_or (first_view
 tallied_at full zero = first_tallied full
 tallied_at full (suc id) = spent_tallied full
 
-pub opens : {S : Type 0} (m : Meaning) → IsCovered m.full m.rows → KeepsTable {S = S} m (opening m.full [] (first_view m.full))
-opens {S} m covered = record {
-  core = opening_keeps 1 covered;
+pub opens : {S : Type 0} (m : Meaning) (dirty : List ℕ) → IsCovered m.full m.rows → KeepsTable {S = S} m (opening (m.full ++ dirty) [] (first_view m.full))
+opens {S} m dirty covered = record {
+  core = subst (λ (ws : List ℕ). KeepsWords m.full m.rows (core_with ws (first_view m.full ∷ []))) (sym (take-append_seam m.full dirty)) (opening_keeps 1 covered);
   stakes = refl;
   tallied = tallied_at m.full;
 }

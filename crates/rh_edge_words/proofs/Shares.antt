@@ -15,7 +15,7 @@ use Rattle.rh_core.proofs.Keeps.{move_keeps}
 use Rattle.rh_edge_words.specs.declared.view.View.{View}
 use Rattle.rh_edge_words.specs.Meaning.{Meaning}
 use Rattle.rh_edge_words.specs.Views.{worker_of, spent_view, poorer, new_view, both_views}
-use Rattle.rh_edge_words.specs.Rule.{core_with, core_of, IsTallied, KeepsTable}
+use Rattle.rh_edge_words.specs.Rule.{system_words, core_in, core_of, IsTallied, KeepsTable}
 use Rattle.rh_edge_words.proofs.Tallies.{spent_tallied, same_tally, new_tally, both_tally}
 use Rattle.rh_edge_words.proofs.Tables.{at_view, stake_at, worker_is, live_at, tally}
 use Rattle.rh_edge_words.proofs.StepMoves.{split_move, join_move}
@@ -25,15 +25,15 @@ module _ {S : Type 0} (m : Meaning) where
   seen_long s id v kept e some_stake =
       let sees = kept.core.seen id (live_at s.words s.views id v e some_stake) in
       let is = worker_is s.words s.views id v e in
-      let long : length s.words ≡ length m.full = kept.core.as_long in
+      let long : length (system_words m.full s.words) ≡ length m.full = kept.core.as_long in
       (sym (ap (λ (w : WorkerState). length w.seen) is) ∙ (sees.as_long ∙ long), sym (ap (λ (w : WorkerState). length w.credits) is) ∙ (sees.credits_as_long ∙ long))
 
-  split_core : (s : State S View) (id : ℕ) (v : View) → KeepsTable m s → get_elem? s.views id ≡ some v → 2 ≤ v.stake → KeepsWords m.full m.rows (core_with s.words (set s.views id (poorer v) ++ new_view v ∷ []))
+  split_core : (s : State S View) (id : ℕ) (v : View) → KeepsTable m s → get_elem? s.views id ≡ some v → 2 ≤ v.stake → KeepsWords m.full m.rows (core_in m.full s.words (set s.views id (poorer v) ++ new_view v ∷ []))
   split_core s id v kept e enough =
       let is = (at_view s.views id v e).1 in
       let enough' : 2 ≤ (get_or s.views id spent_view).stake = subst (λ (u : View). 2 ≤ u.stake) (sym is) enough in
-      let P : View → Type 0 = λ u. KeepsWords m.full m.rows (core_with s.words (set s.views id (poorer u) ++ new_view u ∷ [])) in
-      subst P is (move_keeps (core_of s) _ (split_move m.rows s.words s.views id (omega arith) enough') kept.core)
+      let P : View → Type 0 = λ u. KeepsWords m.full m.rows (core_in m.full s.words (set s.views id (poorer u) ++ new_view u ∷ [])) in
+      subst P is (move_keeps (core_of m.full s) _ (split_move m.rows (system_words m.full s.words) s.views id (omega arith) enough') kept.core)
 
   pub splits : (id : ℕ) (v : View) → 2 ≤ v.stake → Splits {S = S} (KeepsTable m) id v (poorer v) (new_view v)
   splits id v enough s kept e =
@@ -63,21 +63,21 @@ module _ {S : Type 0} (m : Meaning) where
       let f : WorkerState → ℕ = λ x. bit_at (get_or x.credits k 0) place in
       let ws : List WorkerState = map worker_of s.views in
       let none : f spent ≡ 0 = bit_at-zero place in
-      let two : f (worker_at (core_of s) id) + f (worker_at (core_of s) other) ≤ sum_by f ws =
-      two_of f ws id other spent (live_inside (core_of s) id (live_at s.words s.views id v e v_stake)) (live_inside (core_of s) other (live_at s.words s.views other w e' w_stake)) differ none in
-      let a : f (worker_at (core_of s) id) ≡ bit_at (get_or v.credits k 0) place = ap f (worker_is s.words s.views id v e) in
-      let b : f (worker_at (core_of s) other) ≡ bit_at (get_or w.credits k 0) place = ap f (worker_is s.words s.views other w e') in
-      let once : bit_at (get_or s.words k 0) place + sum_by f ws ≡ bit_at (get_or m.full k 0) place = kept.core.once k place small in
+      let two : f (worker_at (core_of m.full s) id) + f (worker_at (core_of m.full s) other) ≤ sum_by f ws =
+      two_of f ws id other spent (live_inside (core_of m.full s) id (live_at s.words s.views id v e v_stake)) (live_inside (core_of m.full s) other (live_at s.words s.views other w e' w_stake)) differ none in
+      let a : f (worker_at (core_of m.full s) id) ≡ bit_at (get_or v.credits k 0) place = ap f (worker_is s.words s.views id v e) in
+      let b : f (worker_at (core_of m.full s) other) ≡ bit_at (get_or w.credits k 0) place = ap f (worker_is s.words s.views other w e') in
+      let once : bit_at (get_or (system_words m.full s.words) k 0) place + sum_by f ws ≡ bit_at (get_or m.full k 0) place = kept.core.once k place small in
       let one = bit_at-lt (get_or m.full k 0) place in
       omega arith
 
   join_core : (s : State S View) (id other : ℕ) (v w : View) → KeepsTable m s → get_elem? s.views id ≡ some v → get_elem? s.views other ≡ some w → id ≢ other → 0 < v.stake → 0 < w.stake
-      → KeepsWords m.full m.rows (core_with s.words (set (set s.views id (both_views v w)) other spent_view))
+      → KeepsWords m.full m.rows (core_in m.full s.words (set (set s.views id (both_views v w)) other spent_view))
   join_core s id other v w kept e e' differ v_stake w_stake =
       let is = (at_view s.views id v e).1 in
       let is' = (at_view s.views other w e').1 in
-      let P : View → View → Type 0 = λ x y. KeepsWords m.full m.rows (core_with s.words (set (set s.views id (both_views x y)) other spent_view)) in
-      let moved = move_keeps (core_of s) _ (join_move m.rows s.words s.views id (stake_at s.views id v e v_stake) other differ (stake_at s.views other w e' w_stake)) kept.core in
+      let P : View → View → Type 0 = λ x y. KeepsWords m.full m.rows (core_in m.full s.words (set (set s.views id (both_views x y)) other spent_view)) in
+      let moved = move_keeps (core_of m.full s) _ (join_move m.rows (system_words m.full s.words) s.views id (stake_at s.views id v e v_stake) other differ (stake_at s.views other w e' w_stake)) kept.core in
       subst (λ (y : View). P v y) is' (subst (λ (x : View). P x (get_or s.views other spent_view)) is moved)
 
   pub joins : (id other : ℕ) (v w : View) → 0 < v.stake → 0 < w.stake → Joins {S = S} (KeepsTable m) id v other w (both_views v w) spent_view

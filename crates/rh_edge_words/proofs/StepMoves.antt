@@ -1,16 +1,21 @@
 -- Each step of a seat is a move of the core.
-use Rattle.std.proofs.Common.{◌≡◌, ◌≢◌, ℕ, ◌+◌, ◌-◌, ◌^◌, ◌<◌, ◌≤◌, inl, inr, Bool, List, [], ◌∷◌, ◌++◌, length, get_or, set, map, bit_and, refl, sym, ap, subst, arith, ◌∙◌, nat_lt}
+use Rattle.std.proofs.Common.{◌≡◌, ◌≢◌, ℕ, ◌+◌, ◌-◌, ◌^◌, ◌<◌, ◌≤◌, inl, inr, Bool, List, [], ◌∷◌, ◌++◌, length, get_or, set, map, bit_and, bit_or, min, refl, sym, ap, subst, arith, ◌∙◌, nat_lt}
 use Rattle.std.proofs.lemmas.Bool.{cases_lt}
-use Rattle.std.proofs.lemmas.List.{get_or_past, get_or-map, map-append, map-set, set-get_or}
+use Rattle.std.proofs.lemmas.List.{get_or_past, get_or-map, get_or-take, length-take, map-append, map-set, set-get_or, take-set-le}
+use Rattle.std.proofs.Math.Seq.{take-set-lt}
 use Rattle.rh_system.specs.declared.system.Row.{Row}
 use Rattle.rh_core.specs.State.{WorkerState, CoreState, newcomer, spent, worker_at, IsLive}
 use Rattle.rh_core.specs.Moves.{saw, took, united, richer, MayClear, Move}
 use Rattle.rh_core.specs.Moves.{load, and, split, join}
 use Rattle.rh_edge_words.specs.declared.view.View.{View}
 use Rattle.rh_edge_words.specs.Views.{worker_of, spent_view, after_look, after_load, after_clear, poorer, new_view, both_views}
-use Rattle.rh_edge_words.specs.Rule.{core_with}
+use Rattle.rh_edge_words.specs.Rule.{core_with, system_words, core_in}
 use Rattle.rh_edge_words.specs.Steps.{StepsAreMoves}
 use Rattle.rh_edge_words.proofs.Tables.{above_zero}
+
+-- a dirty word is none of the core's
+pub same_core : (full words : List ℕ) (views : List View) (word n : ℕ) → length full ≤ word → core_in full (set words word n) views ≡ core_in full words views
+same_core full words views word n past = ap (λ (ws : List ℕ). core_with ws views) (take-set-le (length full) words word n past)
 
 -- a worker is live with whatever stake it has
 same_worker : (v : View) (stake : ℕ) (credits : List ℕ) → 0 < v.stake → 0 < stake
@@ -90,11 +95,38 @@ module _ (rows : List Row) (words : List ℕ) (views : List View) (id : ℕ) (so
       let P : List WorkerState → Type 0 = λ l. Move rows s record { words = words; workers = l } in
       subst P (sym all) (join id other differ (live_here words views id some_stake) (live_here words views other other_stake))
 
-  pub steps_move : StepsAreMoves rows words views id
+-- the same moves, on the words of the system in a table
+module _ (rows : List Row) (full words : List ℕ) (views : List View) (id : ℕ) (some_stake : 0 < (get_or views id spent_view).stake) where
+  -- a word of the system is the one of the table
+  word_of_table : (word : ℕ) → word < length (system_words full words) → (word < length full) × (get_or (system_words full words) word 0 ≡ get_or words word 0)
+  word_of_table word inside =
+      let long : length (system_words full words) ≡ min (length full) (length words) = length-take (length full) words in
+      let below : word < length full = omega arith in
+      (below, get_or-take (length full) words word 0 below)
+
+  pub read_in_table : (word : ℕ) (w : View) → worker_of w ≡ saw (worker_of (get_or views id spent_view)) word (get_or words word 0) → word < length (system_words full words)
+      → Move rows (core_in full words views) (core_in full words (set views id w))
+  read_in_table word w same inside =
+      let here = (word_of_table word inside).1 in
+      read_move rows (system_words full words) views id some_stake word w (same ∙ ap (λ (n : ℕ). saw (worker_of (get_or views id spent_view)) word n) (sym here)) inside
+
+  pub clear_in_table : (word mask : ℕ) → word < length (system_words full words) → mask < 2 ^ 64 → MayClear rows (get_or views id spent_view).seen word mask
+      → Move rows (core_in full words views) (core_in full (set words word (bit_and (get_or words word 0) mask)) (set views id (after_clear (get_or views id spent_view) word mask (get_or words word 0))))
+  clear_in_table word mask inside fits may =
+      let own : List ℕ = system_words full words in
+      let t = word_of_table word inside in
+      let left : ℕ = bit_and (get_or words word 0) mask in
+      let P : ℕ → Type 0 = λ n. Move rows (core_in full words views) (core_with (set own word (bit_and n mask)) (set views id (after_clear (get_or views id spent_view) word mask n))) in
+      let Q : List ℕ → Type 0 = λ ws. Move rows (core_in full words views) (core_with ws (set views id (after_clear (get_or views id spent_view) word mask (get_or words word 0)))) in
+      subst Q (sym (take-set-lt (length full) words word left t.0)) (subst P t.1 (clear_move rows own views id some_stake word mask inside fits may))
+
+  pub steps_move : StepsAreMoves rows full words views id
   steps_move = record {
-    look = λ word inside. read_move word (after_look (get_or views id spent_view) word (get_or words word 0)) refl inside;
-    load = λ word inside. read_move word (after_load (get_or views id spent_view) word (get_or words word 0)) refl inside;
-    clear = clear_move;
-    split = split_move;
-    join = join_move;
+    look = λ word inside. read_in_table word (after_look (get_or views id spent_view) word (get_or words word 0)) refl inside;
+    load = λ word inside. read_in_table word (after_load (get_or views id spent_view) word (get_or words word 0)) refl inside;
+    clear = clear_in_table;
+    split = split_move rows (system_words full words) views id some_stake;
+    join = join_move rows (system_words full words) views id some_stake;
+    mark = λ word mask past. same_core full words views word (bit_or (get_or words word 0) mask) past;
+    take = λ word past. same_core full words views word 0 past;
   }

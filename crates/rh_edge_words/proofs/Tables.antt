@@ -14,7 +14,7 @@ use Rattle.rh_core.proofs.Keeps.{seen_holds}
 use Rattle.rh_edge_words.specs.declared.view.View.{View}
 use Rattle.rh_edge_words.specs.Meaning.{Meaning}
 use Rattle.rh_edge_words.specs.Views.{worker_of, spent_view}
-use Rattle.rh_edge_words.specs.Rule.{core_with, core_of, IsTallied, KeepsTable}
+use Rattle.rh_edge_words.specs.Rule.{core_with, core_in, core_of, IsTallied, KeepsTable}
 
 -- a view that the table has stands at its number
 pub at_view : (views : List View) (id : ℕ) (v : View) → get_elem? views id ≡ some v → (id < length views) × (get_or views id spent_view ≡ v)
@@ -39,7 +39,7 @@ module _ {S : Type 0} (m : Meaning) where
   -- what a seat that is not spent knows of the words, between any two steps
   pub knows : (s : State S View) (id : ℕ) (v : View) → KeepsTable m s → get_elem? s.views id ≡ some v → 0 < v.stake → HoldsGreatest m.rows v.seen
   knows s id v kept e some_stake =
-      subst (λ (w : WorkerState). HoldsGreatest m.rows w.seen) (worker_is s.words s.views id v e) (seen_holds (core_of s) id kept.core (live_at s.words s.views id v e some_stake))
+      subst (λ (w : WorkerState). HoldsGreatest m.rows w.seen) (worker_is s.words s.views id v e) (seen_holds (core_of m.full s) id kept.core (live_at s.words s.views id v e some_stake))
 
   pub stake_fits : (s : State S View) (id : ℕ) (v : View) → KeepsTable m s → get_elem? s.views id ≡ some v → v.stake ≤ 16
   stake_fits s id v kept e =
@@ -54,7 +54,7 @@ module _ {S : Type 0} (m : Meaning) where
 
   -- a step that leaves the seat's stake
   pub step_keeps : (s : State S View) (words : List ℕ) (id : ℕ) (v w : View) → KeepsTable m s → get_elem? s.views id ≡ some v → w.stake ≡ v.stake → IsTallied m.full w
-      → KeepsWords m.full m.rows (core_with words (set s.views id w))
+      → KeepsWords m.full m.rows (core_in m.full words (set s.views id w))
       → KeepsTable {S = S} m record { words = words; homes = s.homes; views = set s.views id w }
   step_keeps s words id v w kept e stake tallied core =
       let t = at_view s.views id v e in

@@ -1,5 +1,5 @@
 -- A seat with its copy of the words, its count and its stake.
-use Rattle.std.specs.Prelude.{ℕ, ◌+◌, ◌^◌, ◌<◌, ◌≤◌, ◌≡◌, List, [], length, slice_index}
+use Rattle.std.specs.Prelude.{ℕ, ◌+◌, ◌/◌, ◌^◌, ◌<◌, ◌≤◌, ◌≡◌, List, [], length, slice_index}
 use Rattle.std.specs.Int.{bit_at}
 use Rattle.rh_system.specs.declared.system.Row.{Row}
 use Rattle.rh_system.specs.Bits.{IsSubword, bit_count}
@@ -37,10 +37,15 @@ pub record IsNameOf (m : Meaning) (full : List ℕ) (rows : List Row) : Type 0 w
   pub few : length m.full < 2 ^ 32
   pub fit : (word : ℕ) → slice_index m.full word < 2 ^ 64
 
-pub record IsTableOf (m : Meaning) (words slots : ℕ) (full : List ℕ) : Type 0 where
+-- how many dirty words so many nodes have, with 64 nodes in each
+abbrev pub dirty_words : ℕ → ℕ
+dirty_words nodes = (nodes + 63) / 64
+
+-- a table has the words of the system, then dirty words, and no slots
+pub record IsTableOf (m : Meaning) (words slots dirty : ℕ) (full : List ℕ) : Type 0 where
   pub some : 0 < length m.full
   pub few : length m.full < 2 ^ 32
-  pub counts : words ≡ length m.full
+  pub counts : words ≡ length m.full + dirty
   pub no_slots : slots ≡ 0
   pub fit : (k : ℕ) → slice_index m.full k < 2 ^ 64
   pub full_is : m.full ≡ full

@@ -64,6 +64,15 @@ impl<N: SystemName> Play<(), View> for Clearing<N> {
     ghost then = { λ step me found after. Clears N.meaning step me found after };
 }
 
+/// Bits of a dirty word are set, or all of them are taken.
+pub(crate) struct Marking;
+
+impl Play<(), View> for Marking {
+    ghost use Rattle.rh_edge_words.specs.Steps.{Stays};
+
+    ghost then = { λ step me found after. Stays step me found after };
+}
+
 /// One of the stake goes to a new seat.
 pub(crate) struct Halves;
 

@@ -1,18 +1,18 @@
 //! The words that threads share.
-ghost use Rattle.std.specs.Prelude.{◌≡◌, ◌+◌, ◌<◌, ◌≤◌, ◌^◌, ℕ, List, IfOk, OnErr, length, slice_index};
+ghost use Rattle.std.specs.Prelude.{◌≡◌, ◌+◌, ◌<◌, ◌≤◌, ◌^◌, ◌++◌, ℕ, List, IfOk, OnErr, length, replicate, slice_index};
 ghost use Rattle.rh_system.specs.Bits.{IsSubword, bit_count};
 ghost use Rattle.rh_system.specs.Rows.{HoldsGreatest, IsGreatest};
 ghost use Rattle.rh_core.specs.Moves.{MayClear};
-ghost use Rattle.rh_edge_words.specs.Seated.{IsNameOf, SplitsView, JoinsView, ArePartsOf};
+ghost use Rattle.rh_edge_words.specs.Seated.{IsNameOf, SplitsView, JoinsView, ArePartsOf, dirty_words};
 ghost use Rattle.rh_edge_words.specs.Steps.{view_at, StepsAreMoves};
 ghost use Rattle.rh_edge_words.specs.declared.view.View.{View};
 ghost use Rattle.rh_edge_words.specs.Views.{first_view, after_look, after_load, after_clear, poorer, new_view};
 
-use crate::rule::{Clearing, Halves, Loading, Looking, SystemName, Unites, WordsRule};
+use crate::rule::{Clearing, Halves, Loading, Looking, Marking, SystemName, Unites, WordsRule};
 use crate::seat::WordSeat;
 use crate::view::View;
 use atomic_table::Table;
-use rh_system::{System, full_words};
+use rh_system::{Hints, System, full_words};
 use std::alloc::{AllocError, Global};
 use std::marker::{Model, PhantomData};
 
@@ -21,12 +21,25 @@ fn all_fit(words: &[u64])
     ensures { (k : ℕ) → slice_index words.now k < 2 ^ 64 }
 {}
 
-/// The words of a system in a table that threads share. Contracts see it as the table and the
-/// system.
+/// The words, and so many more that are 0.
+fn with_zeros(alloc: Global, words: &[u64], more: u32) -> Result<Vec<u64>, AllocError>
+    ensures { IfOk result (λ all. all.items ≡ words.now ++ replicate more 0) }
+{
+    let len = words.len() + more as usize;
+    let mut all = Vec::with_capacity(alloc, len)?;
+    all.extend_from_slice(words)?;
+    all.resize(len, 0)?;
+    Ok(all)
+}
+
+/// The words of a system in a table that threads share, and after them dirty words, in which seats
+/// note for each other which nodes of the system to look at again. Node `v` has the bit `v % 64` of
+/// dirty word `v / 64`. Contracts see it as the table and the system.
 #[derive(Drop)]
 pub struct EdgeWords<'s, S: System, N: SystemName> {
     system: &'s S,
     table: Table<(), View, (), WordsRule<N>, Global>,
+    dirty: u32,
 }
 
 impl<'s, S: System, N: SystemName> Model for EdgeWords<'s, S, N> {
@@ -39,11 +52,11 @@ impl<'s, S: System, N: SystemName> Model for EdgeWords<'s, S, N> {
 
     ghost view = { λ t. (t.table.shared.table_id, t.system.now) };
 
-    ghost invariant = { λ t. IsTableOf N.meaning t.table.shared.table_id.words t.table.shared.table_id.slots (S.full_words t.system.now) × (N.meaning.rows ≡ S.rows t.system.now) };
+    ghost invariant = { λ t. IsTableOf N.meaning t.table.shared.table_id.words t.table.shared.table_id.slots t.dirty (S.full_words t.system.now) × (N.meaning.rows ≡ S.rows t.system.now) };
 }
 
 impl<'s, S: System, N: SystemName> EdgeWords<'s, S, N> {
-    /// A table with the full words, and its one seat, which has seen them.
+    /// A table with the full words and no dirty words, and its one seat, which has seen them.
     pub fn new(
         alloc: Global,
         system: &'s S,
@@ -51,17 +64,38 @@ impl<'s, S: System, N: SystemName> EdgeWords<'s, S, N> {
         requires full { N.meaning.full ≡ S.full_words system.now }
         requires rows { N.meaning.rows ≡ S.rows system.now }
         requires some { 0 < length (S.full_words system.now) }
-        ensures { IfOk result (λ made. (made.0.1 ≡ system.now) × (made.1.0 ≡ made.0.0) × (made.1.1 ≡ first_view N.meaning.full)) }
+        ensures made { IfOk result (λ made. (made.0.1 ≡ system.now) × (made.1.0 ≡ made.0.0) × (made.1.1 ≡ first_view N.meaning.full)) }
+        ensures none_dirty { IfOk result (λ made. made.0.0.words ≡ length N.meaning.full) }
+    {
+        EdgeWords::with_dirty(alloc, system, 0)
+    }
+
+    /// The table with so many dirty words, all 0.
+    fn with_dirty(
+        alloc: Global,
+        system: &'s S,
+        dirty: u32,
+    ) -> Result<(EdgeWords<'s, S, N>, WordSeat<N>), AllocError>
+        requires full { N.meaning.full ≡ S.full_words system.now }
+        requires rows { N.meaning.rows ≡ S.rows system.now }
+        requires some { 0 < length (S.full_words system.now) }
+        ensures made { IfOk result (λ made. (made.0.1 ≡ system.now) × (made.1.0 ≡ made.0.0) × (made.1.1 ≡ first_view N.meaning.full)) }
+        ensures dirty { IfOk result (λ made. made.0.0.words ≡ length N.meaning.full + dirty) }
     {
         // so that their number fits a u32
         let _few = system.words();
-        let words = full_words(alloc, system)?;
-        all_fit(words.as_slice());
+        let copy = full_words(alloc, system)?;
+        all_fit(copy.as_slice());
+        let words = with_zeros(alloc, copy.as_slice(), dirty)?;
         let (table, seat) = Table::of_words(alloc, words.as_slice(), &())?;
-        let table = EdgeWords { system, table };
+        let table = EdgeWords {
+            system,
+            table,
+            dirty,
+        };
         let seat = WordSeat {
             seat,
-            copy: words,
+            copy,
             cleared: 0,
             stake: 16,
             name: PhantomData,
@@ -83,6 +117,13 @@ impl<'s, S: System, N: SystemName> EdgeWords<'s, S, N> {
         self.system.words()
     }
 
+    /// How many dirty words there are: none after `new`.
+    pub fn dirty(&self) -> u32
+        ensures { length N.meaning.full + result ≡ self.now.0.words }
+    {
+        self.dirty
+    }
+
     /// A law: the name is one of the system.
     pub fn is_named(&self)
         ensures { IsNameOf N.meaning (S.full_words self.now.1) (S.rows self.now.1) }
@@ -90,10 +131,10 @@ impl<'s, S: System, N: SystemName> EdgeWords<'s, S, N> {
         let _ = &self.table;
     }
 
-    /// A law: each step of a seat that is not spent is a move of the core, whatever the words and
-    /// the views of all seats are.
+    /// A law: each step of a seat that is not spent is a move of the core or leaves the core as it
+    /// is, whatever the words of the table and the views of all seats are.
     pub fn steps_are_moves(&self)
-        ensures { (words : List ℕ) (views : List View) (id : ℕ) → 0 < (view_at views id).stake → StepsAreMoves N.meaning.rows words views id }
+        ensures { (words : List ℕ) (views : List View) (id : ℕ) → 0 < (view_at views id).stake → StepsAreMoves N.meaning.rows N.meaning.full words views id }
     {
         let _ = &self.table;
     }
@@ -132,6 +173,35 @@ impl<'s, S: System, N: SystemName> EdgeWords<'s, S, N> {
         seat.cleared += u64::from((found & !mask).count_ones());
         seat.copy[word as usize] = found & mask;
         found
+    }
+
+    /// The place of a dirty word in the table.
+    fn place_of_dirty(&self, dirty: u32) -> usize
+        ensures { result ≡ length N.meaning.full + dirty }
+    {
+        self.count() as usize + dirty as usize
+    }
+
+    /// Sets bits of a dirty word.
+    pub fn mark(&self, seat: &mut WordSeat<N>, dirty: u32, mask: u64)
+        requires table { seat.old.0 ≡ self.now.0 }
+        requires in_range { length N.meaning.full + dirty < self.now.0.words }
+        ensures { seat.new ≡ seat.old }
+    {
+        let place = self.place_of_dirty(dirty);
+        self.table
+            .shared
+            .fetch_or::<Marking>(&mut seat.seat, place, mask);
+    }
+
+    /// Takes all bits of a dirty word, which is 0 then, and answers the word as it was.
+    pub fn take(&self, seat: &mut WordSeat<N>, dirty: u32) -> u64
+        requires table { seat.old.0 ≡ self.now.0 }
+        requires in_range { length N.meaning.full + dirty < self.now.0.words }
+        ensures { seat.new ≡ seat.old }
+    {
+        let place = self.place_of_dirty(dirty);
+        self.table.shared.swap::<Marking>(&mut seat.seat, place, 0)
     }
 
     /// Looks at word 0, which is no load.
@@ -215,7 +285,11 @@ impl<'s, S: System, N: SystemName> EdgeWords<'s, S, N> {
         ensures credits { IsGreatest N.meaning.rows result.items → ArePartsOf seat.1.credits result.items N.meaning.full }
         ensures count { IsGreatest N.meaning.rows result.items → bit_count seat.1.credits + bit_count result.items ≡ bit_count N.meaning.full }
     {
-        let EdgeWords { system: _, table } = self;
+        let EdgeWords {
+            system: _,
+            table,
+            dirty: _,
+        } = self;
         let WordSeat {
             seat: last,
             copy,
@@ -227,5 +301,21 @@ impl<'s, S: System, N: SystemName> EdgeWords<'s, S, N> {
         let closed = table.close_with(last);
         closed.free();
         copy
+    }
+}
+
+impl<'s, S: Hints, N: SystemName> EdgeWords<'s, S, N> {
+    /// As `new`, with a dirty word for each 64 nodes, all 0.
+    pub fn new_hinted(
+        alloc: Global,
+        system: &'s S,
+    ) -> Result<(EdgeWords<'s, S, N>, WordSeat<N>), AllocError>
+        requires full { N.meaning.full ≡ S.full_words system.now }
+        requires rows { N.meaning.rows ≡ S.rows system.now }
+        requires some { 0 < length (S.full_words system.now) }
+        ensures made { IfOk result (λ made. (made.0.1 ≡ system.now) × (made.1.0 ≡ made.0.0) × (made.1.1 ≡ first_view N.meaning.full)) }
+        ensures dirty { IfOk result (λ made. made.0.0.words ≡ length (S.full_words system.now) + dirty_words (S.node_count system.now)) }
+    {
+        EdgeWords::with_dirty(alloc, system, system.nodes().div_ceil(64))
     }
 }

@@ -60,7 +60,7 @@ numbered_more crew w id many is so_far i d below =
     ]
 
 pub gathers_more : (table : TableId) (words id : ℕ) (crew : List Seen) (first after new : TableId × View) (w : Seen) → Gathers table words id crew first → 2 ≤ first.1.stake → after.0 ≡ first.0 → new.0 ≡ first.0 → SplitsView first.1 after.1 new.1
-    → w ≡ (new.0, new.1, 0, id) → Gathers table words (id + 1) (crew ++ w ∷ []) after
+    → w ≡ (new.0, new.1, 0, id, 0) → Gathers table words (id + 1) (crew ++ w ∷ []) after
 gathers_more table words id crew first after new w so_far enough at new_at split is =
     let stake : after.1.stake ≡ first.1.stake - 1 = ap (λ (u : View). u.stake) split.splitting in
     let one : new.1.stake ≡ 1 = ap (λ (u : View). u.stake) split.new_one in
@@ -83,7 +83,7 @@ gathers_more table words id crew first after new w so_far enough at new_at split
       numbered = numbered_more crew w id so_far.many (ap (λ (x : Seen). x.3) is) so_far.numbered;
     }
 
-pub gathers_all : (table : TableId) (words id workers : ℕ) (crew : List Seen) (first : TableId × View) (w : Seen) → Gathers table words id crew first → id + 1 ≡ workers → w ≡ (first.0, first.1, 0, id) → IsCrew table words workers (crew ++ w ∷ [])
+pub gathers_all : (table : TableId) (words id workers : ℕ) (crew : List Seen) (first : TableId × View) (w : Seen) → Gathers table words id crew first → id + 1 ≡ workers → w ≡ (first.0, first.1, 0, id, 0) → IsCrew table words workers (crew ++ w ∷ [])
 gathers_all table words id workers crew first w so_far all is =
     let w_stake : w.1.stake ≡ first.1.stake = ap (λ (x : Seen). x.1.stake) is in
     let sums : sum_by (λ (x : Seen). x.1.stake) (crew ++ w ∷ []) ≡ sum_by (λ (x : Seen). x.1.stake) crew + w.1.stake = sum_by_push (λ (x : Seen). x.1.stake) crew w in
@@ -126,15 +126,15 @@ copies_sum (suc words) n k = ap (λ (l : List ℕ). (n + k) ∷ l) (copies_sum w
 loads_added : (words n k : ℕ) (xs ys both : List ℕ) → both ≡ sums xs ys → xs ≡ replicate words n → ys ≡ replicate words k → both ≡ replicate words (n + k)
 loads_added words n k xs ys both is p q = is ∙ (ap (λ (l : List ℕ). sums l ys) p ∙ (ap (sums (replicate words n)) q ∙ copies_sum words n k))
 
--- some of the workers are joined, and the others are left
-pub record Joins (table : TableId) (full : List ℕ) (rows : List Row) (workers : ℕ) (left : List Seen) (seat : TableId × View) (turns : ℕ) : Type 0 where
+-- some of the workers are joined, and the others are left. If all loads were exact, so are those of the joined and of the others
+pub record Joins (exact : Type 0) (table : TableId) (full : List ℕ) (rows : List Row) (workers : ℕ) (left : List Seen) (seat : TableId × View) (turns : ℕ) : Type 0 where
   pub at : seat.0 ≡ table
   pub greatest : IsGreatest rows seat.1.seen
   pub tables : All (λ w. w.0 ≡ table) left
   pub run : All (HasRun full rows) left
   pub stakes : sum_by (λ w. w.1.stake) left + seat.1.stake ≡ 16
-  pub each_loaded : All (λ w. HasLoaded (length full) w.2 w) left
-  pub loaded : seat.1.loads ≡ replicate (length full) turns
+  pub loaded : exact → seat.1.loads ≡ replicate (length full) turns
+  pub each_loaded : exact → All (λ w. HasLoaded (length full) w.2 w) left
   pub enough : workers ≤ turns + length left
   pub most : turns + length left * (bit_count full + 1) ≤ workers * (bit_count full + 1)
 
@@ -145,13 +145,13 @@ empty_greatest rows words covered none =
     subst (λ (ws : List ℕ). IsGreatest rows ws) (sym none)
     (greatest_from rows [] (full_holds [] rows covered) (λ bit h. let inside : bit / 64 < 0 = bit_inside [] bit h in absurd (omega arith)))
 
-pub join_step : (table : TableId) (full : List ℕ) (rows : List Row) (workers : ℕ) (left rest : List Seen) (w : Seen) (seat after : TableId × View) (turns : ℕ) → left ≡ rest ++ w ∷ [] → Joins table full rows workers left seat turns
-    → after.0 ≡ seat.0 → JoinsView seat.1 w.1 after.1 → HoldsGreatest rows after.1.seen → Joins table full rows workers rest after (turns + w.2)
-join_step table full rows workers left rest w seat after turns popped so_far at joins holds =
+pub join_step : (exact : Type 0) (table : TableId) (full : List ℕ) (rows : List Row) (workers : ℕ) (left rest : List Seen) (w : Seen) (seat after : TableId × View) (turns : ℕ) → left ≡ rest ++ w ∷ [] → Joins exact table full rows workers left seat turns
+    → after.0 ≡ seat.0 → JoinsView seat.1 w.1 after.1 → HoldsGreatest rows after.1.seen → Joins exact table full rows workers rest after (turns + w.2)
+join_step exact table full rows workers left rest w seat after turns popped so_far at joins holds =
     let tables = All-pop (λ (x : Seen). x.0 ≡ table) left rest (Some w) popped so_far.tables in
     let run = All-pop (HasRun full rows) left rest (Some w) popped so_far.run in
     let ran : HasRun full rows w = run.1 in
-    let each_loaded = All-pop (λ (x : Seen). HasLoaded (length full) x.2 x) left rest (Some w) popped so_far.each_loaded in
+    let each_loaded = λ (is : exact). All-pop (λ (x : Seen). HasLoaded (length full) x.2 x) left rest (Some w) popped (so_far.each_loaded is) in
     let stake : after.1.stake ≡ seat.1.stake + w.1.stake = ap (λ (u : View). u.stake) joins.joined in
     let sums : sum_by (λ (x : Seen). x.1.stake) (rest ++ w ∷ []) ≡ sum_by (λ (x : Seen). x.1.stake) rest + w.1.stake = sum_by_push (λ (x : Seen). x.1.stake) rest w in
     let same : sum_by (λ (x : Seen). x.1.stake) left ≡ sum_by (λ (x : Seen). x.1.stake) (rest ++ w ∷ []) = ap (sum_by (λ (x : Seen). x.1.stake)) popped in
@@ -169,19 +169,19 @@ join_step table full rows workers left rest w seat after turns popped so_far at 
       tables = tables.0;
       run = run.0;
       stakes = omega arith;
-      loaded = loads_added (length full) turns w.2 seat.1.loads w.1.loads after.1.loads (ap (λ (u : View). u.loads) joins.joined) so_far.loaded each_loaded.1;
-      each_loaded = each_loaded.0;
+      loaded = λ is. loads_added (length full) turns w.2 seat.1.loads w.1.loads after.1.loads (ap (λ (u : View). u.loads) joins.joined) (so_far.loaded is) (each_loaded is).1;
+      each_loaded = λ is. (each_loaded is).0;
       enough = omega arith;
       most = omega arith;
     }
 
 pub join_first : (table : TableId) (full : List ℕ) (rows : List Row) (workers : ℕ) (crew rest : List Seen) (w : Seen) → crew ≡ rest ++ w ∷ [] → length crew ≡ workers → All (λ x. x.0 ≡ table) crew → All (HasRun full rows) crew
-    → All (λ x. HasLoaded (length full) x.2 x) crew → sum_by (λ x. x.1.stake) crew ≡ 16 → Joins table full rows workers rest (w.0, w.1) w.2
-join_first table full rows workers crew rest w popped many tables run all_loaded stakes =
+    → sum_by (λ x. x.1.stake) crew ≡ 16 → Joins (All (λ x. HasLoaded (length full) x.2 x) crew) table full rows workers rest (w.0, w.1) w.2
+join_first table full rows workers crew rest w popped many tables run stakes =
     let tables' = All-pop (λ (x : Seen). x.0 ≡ table) crew rest (Some w) popped tables in
     let run' = All-pop (HasRun full rows) crew rest (Some w) popped run in
     let ran : HasRun full rows w = run'.1 in
-    let each_loaded = All-pop (λ (x : Seen). HasLoaded (length full) x.2 x) crew rest (Some w) popped all_loaded in
+    let each_loaded = All-pop (λ (x : Seen). HasLoaded (length full) x.2 x) crew rest (Some w) popped in
     let sums : sum_by (λ (x : Seen). x.1.stake) (rest ++ w ∷ []) ≡ sum_by (λ (x : Seen). x.1.stake) rest + w.1.stake = sum_by_push (λ (x : Seen). x.1.stake) rest w in
     let same : sum_by (λ (x : Seen). x.1.stake) crew ≡ sum_by (λ (x : Seen). x.1.stake) (rest ++ w ∷ []) = ap (sum_by (λ (x : Seen). x.1.stake)) popped in
     let long : workers ≡ length rest + 1 = sym many ∙ (ap length popped ∙ length-append rest (w ∷ [])) in
@@ -195,8 +195,8 @@ join_first table full rows workers crew rest w popped many tables run all_loaded
       tables = tables'.0;
       run = run'.0;
       stakes = omega arith;
-      loaded = each_loaded.1;
-      each_loaded = each_loaded.0;
+      loaded = λ all. (each_loaded all).1;
+      each_loaded = λ all. (each_loaded all).0;
       enough = omega arith;
       most = omega arith;
     }

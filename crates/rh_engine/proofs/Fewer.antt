@@ -146,7 +146,7 @@ clears_more rows before now after below cleared so_far less =
     let le : bit_count now ≤ bit_count before = so_far.fewer in
     record { fewer = omega arith; less = λ e. omega arith; closed = λ e. cc }
 
-at_word : (rows : List Row) (now : List ℕ) (below bit : ℕ) → IsWordSupported rows now below → 64 * below ≤ bit → bit < 64 * (below + 1) → IsTrue (bits_in now bit) → IsTrue (supports rows (bits_in now) bit)
+pub at_word : (rows : List Row) (now : List ℕ) (below bit : ℕ) → IsWordSupported rows now below → 64 * below ≤ bit → bit < 64 * (below + 1) → IsTrue (bits_in now bit) → IsTrue (supports rows (bits_in now) bit)
 at_word rows now below bit supported low high h =
     let here : bit / 64 ≡ below = omega arith in
     let place : 64 * below + bit % 64 ≡ bit = omega arith in

@@ -1,2 +1,4 @@
 pub mod Fewer
+pub mod ShareTurns
+pub mod Hinting
 pub mod Crews

@@ -7,9 +7,9 @@ use Rattle.rh_system.specs.Bits.{bit_count}
 use Rattle.rh_system.specs.Rows.{IsGreatest}
 use Rattle.rh_edge_words.specs.declared.view.View.{View}
 
--- a worker as contracts see it: the table and the view of its seat, the turns of its last run, and its number
+-- a worker as contracts see it: the table and the view of its seat, the turns of its last run, its number, and the hint rounds of its last run
 abbrev pub Seen : Type 0
-Seen = TableId × View × ℕ × ℕ
+Seen = TableId × View × ℕ × ℕ × ℕ
 
 -- the worker has loaded each of so many words that often
 abbrev pub HasLoaded : ℕ → ℕ → Seen → Type 0

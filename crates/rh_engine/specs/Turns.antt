@@ -35,6 +35,11 @@ pub record LoadsRange (v w : View) (from to : ℕ) : Type 0 where
   pub within : AreWithin w.seen v.seen
   pub fewer : bit_count w.seen ≤ bit_count v.seen
 
+-- each word was loaded n times more, or oftener
+pub record LoadsAtLeast (n : ℕ) (before after : List ℕ) : Type 0 where
+  pub long : length after ≡ length before
+  pub more : (word : ℕ) → word < length before → slice_index before word + n ≤ slice_index after word
+
 -- a clear leaves the stake and the loads
 pub record KeepsLoads (v w : View) : Type 0 where
   pub stake : w.stake ≡ v.stake
@@ -52,3 +57,17 @@ IsSwept rows before now word = (place : ℕ) → place < 64 → bit_at (slice_in
 -- each bit that is left was supported by the words before
 abbrev pub AreSwept : List Row → List ℕ → List ℕ → Type 0
 AreSwept rows before now = (bit : ℕ) → IsTrue (bits_in now bit) → IsTrue (supports rows (bits_in before) bit)
+
+-- each bit of the words from `from` up to `to` is supported by the words
+abbrev pub AreWordsSupported : List Row → List ℕ → ℕ → ℕ → Type 0
+AreWordsSupported rows words from to = (word : ℕ) → from ≤ word → word < to → IsWordSupported rows words word
+
+-- the word at which a share begins, where so many words are shared out evenly. The next share begins where it ends
+abbrev pub share_start : ℕ → ℕ → ℕ → ℕ
+share_start count shares share = share * count / shares
+
+-- loads and clears leave the stake, and only add loads and take bits
+pub record Descends (v w : View) : Type 0 where
+  pub stake : w.stake ≡ v.stake
+  pub loads : LoadsAtLeast 0 v.loads w.loads
+  pub fewer : bit_count w.seen ≤ bit_count v.seen

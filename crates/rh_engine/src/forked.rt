@@ -5,12 +5,13 @@ ghost use Rattle.rh_system.specs.Rows.{IsGreatest};
 ghost use Rattle.rh_engine.specs.Turns.{more_loads};
 ghost use Rattle.rh_engine.specs.Crew.{Seen, HasLoaded, IsCrew, HasRun};
 ghost use Rattle.rh_edge_words.specs.Views.{first_view};
+ghost use Rattle.rh_edge_words.specs.Seated.{dirty_words};
 
 use crate::worker::Worker;
 use rh_edge_words::{EdgeWords, SystemName, WordSeat};
 use rh_list::Items;
 use rh_outside::Gate;
-use rh_system::System;
+use rh_system::{Hints, System};
 use std::alloc::{AllocError, Global};
 use std::marker::Brand;
 use std::thread::{Threads, for_each_mut};
@@ -43,9 +44,9 @@ fn crew<S: System, N: SystemName>(
     let mut crew = Vec::with_capacity(alloc, workers as usize)?;
     for id in 0..last {
         let seat = words.split(alloc, &mut first)?;
-        crew.push(Worker::new(id, seat))?;
+        crew.push(Worker::new(id, workers, seat))?;
     }
-    crew.push(Worker::new(last, first))?;
+    crew.push(Worker::new(last, workers, first))?;
     Ok(crew)
 }
 
@@ -68,7 +69,31 @@ fn run_all<R: Threads + Sync, S: System + Sync, N: SystemName + Send + Sync, G: 
     for_each_mut(rt, crew, threads, &|_, worker| worker.run(words, gate));
 }
 
-/// Joins all seats into one, and adds up the turns. Each word was loaded as often.
+/// Runs all workers side by side, by hints.
+fn run_all_hinted<R: Threads + Sync, S: Hints + Sync, N: SystemName + Send + Sync, G: Gate + Sync>(
+    rt: &R,
+    crew: &mut [Worker<N>],
+    words: &EdgeWords<S, N>,
+    gate: &G,
+)
+    requires some { 0 < length crew.old }
+    requires tables { All (λ w. w.0 ≡ words.now.0) crew.old }
+    requires dirty { words.now.0.words ≡ length N.meaning.full + dirty_words (S.node_count words.now.1) }
+    ensures tables { All (λ w. w.0 ≡ words.now.0) crew.new }
+    ensures run { All (HasRun N.meaning.full N.meaning.rows) crew.new }
+    ensures stakes { (i : ℕ) (d : Seen) → i < length crew.old → (slice_index_or crew.new i d).1.stake ≡ (slice_index_or crew.old i d).1.stake }
+{
+    let threads = crew.len();
+    for_each_mut(
+        rt,
+        crew,
+        threads,
+        &|_, worker| worker.run_hinted(words, gate),
+    );
+}
+
+/// Joins all seats into one, and adds up the turns. If each worker loaded every word once in each
+/// of its turns, each word was loaded as often as there were turns.
 fn gather<S: System, N: SystemName>(
     words: &EdgeWords<S, N>,
     mut crew: Vec<Worker<N>>,
@@ -77,12 +102,11 @@ fn gather<S: System, N: SystemName>(
     requires few { vec_len crew ≤ 16 }
     requires tables { All (λ w. w.0 ≡ words.now.0) crew.items }
     requires run { All (HasRun N.meaning.full N.meaning.rows) crew.items }
-    requires loaded { All (λ w. HasLoaded (length N.meaning.full) w.2 w) crew.items }
     requires stakes { sum_by (λ w. w.1.stake) crew.items ≡ 16 }
     ensures table { result.0.0 ≡ words.now.0 }
     ensures stake { result.0.1.stake ≡ 16 }
     ensures greatest { IsGreatest N.meaning.rows result.0.1.seen }
-    ensures loaded { result.0.1.loads ≡ replicate (length N.meaning.full) result.1 }
+    ensures loaded { All (λ w. HasLoaded (length N.meaning.full) w.2 w) crew.items → result.0.1.loads ≡ replicate (length N.meaning.full) result.1 }
     ensures enough { vec_len crew ≤ result.1 }
     ensures most { result.1 ≤ vec_len crew * (bit_count N.meaning.full + 1) }
 {
@@ -100,12 +124,11 @@ fn gather<S: System, N: SystemName>(
     (seat, turns)
 }
 
-/// Ends the table. The turns are those that the loads of its last seat show.
+/// Ends the table.
 fn close<S: System, N: SystemName>(words: EdgeWords<S, N>, seat: WordSeat<N>, turns: u64) -> Solved
     requires table { seat.0 ≡ words.0 }
     requires stake { seat.1.stake ≡ 16 }
     requires greatest { IsGreatest N.meaning.rows seat.1.seen }
-    requires loaded { seat.1.loads ≡ replicate (length N.meaning.full) turns }
     ensures words { result.words ≡ seat.1.seen }
     ensures cleared { result.cleared + bit_count result.words ≡ bit_count N.meaning.full }
     ensures turns { result.turns ≡ turns }
@@ -117,6 +140,23 @@ fn close<S: System, N: SystemName>(words: EdgeWords<S, N>, seat: WordSeat<N>, tu
         cleared,
         turns,
     }
+}
+
+/// Ends the table. The turns are those that the loads of its last seat show.
+fn close_loaded<S: System, N: SystemName>(
+    words: EdgeWords<S, N>,
+    seat: WordSeat<N>,
+    turns: u64,
+) -> Solved
+    requires table { seat.0 ≡ words.0 }
+    requires stake { seat.1.stake ≡ 16 }
+    requires greatest { IsGreatest N.meaning.rows seat.1.seen }
+    requires loaded { seat.1.loads ≡ replicate (length N.meaning.full) turns }
+    ensures words { result.words ≡ seat.1.seen }
+    ensures cleared { result.cleared + bit_count result.words ≡ bit_count N.meaning.full }
+    ensures turns { result.turns ≡ turns }
+{
+    close(words, seat, turns)
 }
 
 /// Solves a system that has a name and words.
@@ -141,6 +181,32 @@ fn solve_named<R: Threads + Sync, S: System + Sync, N: SystemName + Send + Sync,
     let (words, first) = EdgeWords::<S, N>::new(alloc, system)?;
     let mut crew = crew(alloc, &words, first, workers)?;
     run_all(rt, crew.as_mut_slice(), &words, gate);
+    let (seat, turns) = gather(&words, crew);
+    seat.is_seated();
+    Ok(close_loaded(words, seat, turns))
+}
+
+/// Solves a system that has a name and words, by hints.
+fn solve_named_hinted<
+    R: Threads + Sync,
+    S: Hints + Sync,
+    N: SystemName + Send + Sync,
+    G: Gate + Sync,
+>(rt: &R, alloc: Global, system: &S, workers: u32, gate: &G) -> Result<Solved, AllocError>
+    requires full { N.meaning.full ≡ S.full_words system.now }
+    requires rows { N.meaning.rows ≡ S.rows system.now }
+    requires words { 0 < length (S.full_words system.now) }
+    requires some { 0 < workers }
+    requires few { workers ≤ 16 }
+    ensures length { IfOk result (λ solved. length solved.words ≡ length N.meaning.full) }
+    ensures greatest { IfOk result (λ solved. IsGreatest N.meaning.rows solved.words) }
+    ensures cleared { IfOk result (λ solved. solved.cleared + bit_count solved.words ≡ bit_count N.meaning.full) }
+    ensures enough { IfOk result (λ solved. workers ≤ solved.turns) }
+    ensures most { IfOk result (λ solved. solved.turns ≤ workers * (bit_count N.meaning.full + 1)) }
+{
+    let (words, first) = EdgeWords::<S, N>::new_hinted(alloc, system)?;
+    let mut crew = crew(alloc, &words, first, workers)?;
+    run_all_hinted(rt, crew.as_mut_slice(), &words, gate);
     let (seat, turns) = gather(&words, crew);
     seat.is_seated();
     Ok(close(words, seat, turns))
@@ -183,4 +249,29 @@ pub fn solve<R: Threads + Sync, S: System + Sync, G: Gate + Sync>(
         return Ok(solve_empty(alloc, system));
     }
     solve_named::<R, S, Brand, G>(rt, alloc, system, workers, gate)
+}
+
+/// The greatest supported set, as `solve` gives it, by workers that follow the system's hints and
+/// share each turn's clears out among themselves. They take fewer turns where the hints name all
+/// readers of a word.
+pub fn solve_hinted<R: Threads + Sync, S: Hints + Sync, G: Gate + Sync>(
+    rt: &R,
+    alloc: Global,
+    system: &S,
+    workers: u32,
+    gate: &G,
+) -> Result<Solved, AllocError>
+    requires some { 0 < workers }
+    requires few { workers ≤ 16 }
+    ensures length { IfOk result (λ solved. length solved.words ≡ length (S.full_words system.now)) }
+    ensures greatest { IfOk result (λ solved. IsGreatest (S.rows system.now) solved.words) }
+    ensures cleared { IfOk result (λ solved. solved.cleared + bit_count solved.words ≡ bit_count (S.full_words system.now)) }
+    ensures enough { IfOk result (λ solved. 0 < length (S.full_words system.now) → workers ≤ solved.turns) }
+    ensures most { IfOk result (λ solved. solved.turns ≤ workers * (bit_count (S.full_words system.now) + 1)) }
+    ensures none { IfOk result (λ solved. length (S.full_words system.now) ≡ 0 → solved.turns ≡ 0) }
+{
+    if system.words() == 0 {
+        return Ok(solve_empty(alloc, system));
+    }
+    solve_named_hinted::<R, S, Brand, G>(rt, alloc, system, workers, gate)
 }

@@ -2,10 +2,13 @@
 #![tactic(auto)]
 
 mod forked;
+mod hinted;
+mod marks;
+mod shares;
 mod sweep;
 #[cfg(test)]
 mod tests;
 mod worker;
 
-pub use forked::{Solved, solve};
+pub use forked::{Solved, solve, solve_hinted};
 pub use worker::Worker;

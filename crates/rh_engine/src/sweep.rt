@@ -1,4 +1,5 @@
-//! One turn of a worker: it loads every word, and then clears what its words do not support.
+//! One turn of a worker: it loads every word, and then clears what its words do not support. Turns
+//! by shares and hint rounds use the parts.
 ghost use Rattle.std.specs.Prelude.{◌≡◌, ◌+◌, ◌<◌, ◌≤◌, length};
 ghost use Rattle.std.specs.Bool.{OnTrue, OnFalse};
 ghost use Rattle.rh_system.specs.Bits.{bits_in, bit_count};
@@ -22,7 +23,7 @@ fn pass<G: Gate>(gate: &G, id: u32) {
 }
 
 /// Loads the words from `from` up to `to`.
-fn load_range<S: System, N: SystemName>(
+pub(crate) fn load_range<S: System, N: SystemName>(
     words: &EdgeWords<S, N>,
     seat: &mut WordSeat<N>,
     from: u32,
@@ -41,7 +42,11 @@ fn load_range<S: System, N: SystemName>(
 }
 
 /// Loads every word once, from the beginning of the worker's share of the words on and round.
-fn load_all<S: System, N: SystemName>(words: &EdgeWords<S, N>, seat: &mut WordSeat<N>, id: u32)
+pub(crate) fn load_all<S: System, N: SystemName>(
+    words: &EdgeWords<S, N>,
+    seat: &mut WordSeat<N>,
+    id: u32,
+)
     requires table { seat.old.0 ≡ words.now.0 }
     requires id { id < 16 }
     ensures table { seat.new.0 ≡ seat.old.0 }
@@ -61,7 +66,7 @@ fn load_all<S: System, N: SystemName>(words: &EdgeWords<S, N>, seat: &mut WordSe
 
 /// Clears the bits of a word that the seen words do not support, and says whether there were any.
 /// The first clear of a turn waits at the gate.
-fn clear_word<S: System, N: SystemName, G: Gate>(
+pub(crate) fn clear_word<S: System, N: SystemName, G: Gate>(
     words: &EdgeWords<S, N>,
     seat: &mut WordSeat<N>,
     word: u32,

@@ -1,13 +1,16 @@
 //! What no clause of the solver says: that workers meet, what a gate is asked, how many turns one
-//! worker takes, that a load reads the word anew, and the worked example.
+//! worker takes and how many hints save, that a load reads the word anew, and the worked example.
 ghost use Rattle.std.specs.Prelude.{◌≡◌, ◌<◌, length};
 
-use crate::forked::solve;
+use crate::forked::{solve, solve_hinted};
+use crate::worker::Worker;
 use rh_core::{Core, Event};
 use rh_edge_words::{EdgeWords, SystemName};
 use rh_list::Items;
-use rh_outside::Gate;
-use rh_system::{ListedSystem, Row, System, branch_in_a_loop, greatest, supported_part};
+use rh_outside::{Gate, OpenGate};
+use rh_system::{
+    HintedList, ListedSystem, Row, System, branch_in_a_loop, greatest, supported_part,
+};
 use std::alloc::Global;
 use std::marker::Brand;
 use std::sync::atomic::{AtomicU64, Ordering};
@@ -54,6 +57,18 @@ fn gate_two(rt: HostRuntime) -> Result<(), Fail> {
     let gate = Meeting::new(0b11);
     let solved = solve(&rt, rt.alloc(), &system, 2, &gate)?;
     assert_eq!(rt; solved.words.as_slice(), [0, 32, 32, 32, 32, 32].as_slice());
+    assert_eq!(rt; solved.cleared, 31);
+    assert_eq!(rt; gate.asked_by.load(Ordering::SeqCst), 0b11);
+    assert!(rt; gate.most.load(Ordering::SeqCst) < 999_999);
+    Ok(())
+}
+
+#[test]
+fn gate_two_by_hints(rt: HostRuntime) -> Result<(), Fail> {
+    let system = branch_in_a_loop(rt.alloc())?.ok_or("a row outside the full words")?;
+    let system = HintedList::new(rt.alloc(), system)?;
+    let gate = Meeting::new(0b11);
+    let solved = solve_hinted(&rt, rt.alloc(), &system, 2, &gate)?;
     assert_eq!(rt; solved.cleared, 31);
     assert_eq!(rt; gate.asked_by.load(Ordering::SeqCst), 0b11);
     assert!(rt; gate.most.load(Ordering::SeqCst) < 999_999);
@@ -197,5 +212,111 @@ fn the_worked_example(rt: HostRuntime) -> Result<(), Fail> {
     assert_eq!(rt; core.word(0), 0);
     assert_eq!(rt; core.credit(0, 0), 63);
     assert_eq!(rt; core.seen(1, 0), 63);
+    Ok(())
+}
+
+/// Words with one bit each, which rests on that of the next word, but that of the first on that of
+/// the last. The last has no row.
+fn chain(alloc: Global, words: u32) -> Result<HintedList, Fail>
+    requires { 0 < words }
+{
+    let last = words - 1;
+    let mut rows = Items::new(alloc);
+    for word in 0..last {
+        let next = if word == 0 { last } else { word + 1 };
+        let mut premises = Items::new(alloc);
+        premises.push(64 * u64::from(next))?;
+        rows.push(Row {
+            bit: 64 * u64::from(word),
+            premises,
+        })?;
+    }
+    let full = Items::from(vec![in alloc; 1; words as usize]?);
+    let system = ListedSystem::new(full, rows).ok_or("a row outside the full words")?;
+    Ok(HintedList::new(alloc, system)?)
+}
+
+/// The turns and the hint rounds of one worker.
+fn turns_and_hints<N: SystemName + Send + Sync>(
+    alloc: Global,
+    system: &HintedList,
+) -> Result<(u64, u64), Fail>
+    requires full { N.meaning.full ≡ system.now.system.full }
+    requires rows { N.meaning.rows ≡ system.now.system.rows }
+    requires some { 0 < length system.now.system.full }
+{
+    let (words, seat) = EdgeWords::<HintedList, N>::new_hinted(alloc, system)?;
+    let mut worker = Worker::new(0, 1, seat);
+    worker.run_hinted(&words, &OpenGate);
+    Ok((worker.turns(), worker.hints()))
+}
+
+/// Each turn of `run` clears the last bit that is left. The first of `run_hinted` clears that of
+/// word 65, and marks its readers 0 and 64, in two dirty words. One hint round clears these, the
+/// next leads back from word 63 through all others, and the third finds nothing.
+#[test]
+fn hints_lead_back_through_a_chain(rt: HostRuntime) -> Result<(), Fail> {
+    let system = chain(rt.alloc(), 66)?;
+    assert!(rt; system.words() > 0);
+    assert_eq!(rt; solve(&rt, rt.alloc(), &system, 1, &OpenGate)?.turns, 66);
+    assert_eq!(rt;
+        solve_hinted(&rt, rt.alloc(), &system, 1, &OpenGate)?.turns,
+        2
+    );
+    assert!(rt; turns_and_hints::<Brand>(rt.alloc(), &system)? == (2, 3));
+    Ok(())
+}
+
+/// A number below a limit, by a linear congruential generator.
+fn next_below(state: &mut u64, limit: u64) -> u64
+    requires { 0 < limit }
+    ensures { result < limit }
+{
+    *state = state
+        .wrapping_mul(6_364_136_223_846_793_005)
+        .wrapping_add(1_442_695_040_888_963_407);
+    (*state >> 33) % limit
+}
+
+/// Six words of eight bits, and rows with up to two premises.
+fn random_system(alloc: Global, seed: u64) -> Result<HintedList, Fail> {
+    let mut state = seed;
+    let mut rows = Items::new(alloc);
+    for _ in 0..80 {
+        let mut premises = Items::new(alloc);
+        for _ in 0..next_below(&mut state, 3) {
+            premises.push(64 * next_below(&mut state, 6) + next_below(&mut state, 8))?;
+        }
+        rows.push(Row {
+            bit: 64 * next_below(&mut state, 6) + next_below(&mut state, 8),
+            premises,
+        })?;
+    }
+    let full = Items::from(vec![in alloc; 255; 6]?);
+    let system = ListedSystem::new(full, rows).ok_or("a row outside the full words")?;
+    Ok(HintedList::new(alloc, system)?)
+}
+
+/// The hints of these systems name all readers. So one worker's second turn finds nothing.
+#[test]
+fn solvers_agree(rt: HostRuntime) -> Result<(), Fail> {
+    let mut partial = 0u64;
+    for seed in 0..20 {
+        let system = random_system(rt.alloc(), seed)?;
+        let words = greatest(rt.alloc(), &system)?;
+        for workers in [1, 2, 4, 16] {
+            let solved = solve(&rt, rt.alloc(), &system, workers, &OpenGate)?;
+            let hinted = solve_hinted(&rt, rt.alloc(), &system, workers, &OpenGate)?;
+            assert_eq!(rt; solved.words.as_slice(), words.as_slice());
+            assert_eq!(rt; hinted.words.as_slice(), words.as_slice());
+        }
+        let hinted = solve_hinted(&rt, rt.alloc(), &system, 1, &OpenGate)?;
+        if 0 < hinted.cleared && hinted.cleared < 48 {
+            assert_eq!(rt; hinted.turns, 2);
+            partial += 1;
+        }
+    }
+    // systems of which all bits stand, or none, would show little
+    assert!(rt; partial > 10);
     Ok(())
 }

@@ -7,4 +7,5 @@ pub mod SameArgs
 pub mod SameFacts
 pub mod SameForm
 pub mod Finding
+pub mod Visiting
 pub mod Greatest

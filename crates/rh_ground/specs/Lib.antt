@@ -4,6 +4,7 @@ pub mod Template
 pub mod Instance
 pub mod Rows
 pub mod Find
+pub mod Visit
 pub mod Fixed
 pub mod SameFact
 pub mod InDomain

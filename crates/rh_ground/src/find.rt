@@ -49,7 +49,7 @@ fn extend<W: Wanted>(domain: &Domain, params: &[Param], wanted: &W, args: &mut A
 
 /// The numbers of the arguments to be tried, from the first number up to the second: of all of a kind, or of the one
 /// that is fixed.
-fn numbers_to_try(domain: &Domain, kind: Kind, fixed: Option<Arg>) -> (u32, u32)
+pub(crate) fn numbers_to_try(domain: &Domain, kind: Kind, fixed: Option<Arg>) -> (u32, u32)
     requires small { IsSmall domain.now }
     ensures all { between result.0 result.1 (args_in domain.now kind) ≡ args_to_try fixed (args_in domain.now kind) }
     ensures within { result.1 ≤ length (args_in domain.now kind) }
@@ -65,7 +65,7 @@ fn numbers_to_try(domain: &Domain, kind: Kind, fixed: Option<Arg>) -> (u32, u32)
 }
 
 /// Adds the argument of a kind with a number.
-fn push_arg(domain: &Domain, kind: Kind, number: u32, args: &mut Args)
+pub(crate) fn push_arg(domain: &Domain, kind: Kind, number: u32, args: &mut Args)
     requires room { length args.old < 6 }
     requires within { number < length (args_in domain.now kind) }
     ensures { (arg : Arg) × (slice_get (args_in domain.now kind) number ≡ Some arg) × (args.new ≡ args.old ++ arg ∷ []) }

@@ -1,5 +1,5 @@
 //! Whether a rule is about a node under a binding, and whether a fact of a rule is a given one.
-ghost use Rattle.std.specs.Prelude.{ℤ, ◌≡◌, List, map};
+ghost use Rattle.std.specs.Prelude.{ℤ, ◌≡◌, ◌<◌, List, length, map, IfNone, IfSome};
 ghost use Rattle.std.specs.List.{list_all, list_any};
 ghost use Rattle.std.specs.Ordering.{int_eq};
 ghost use Rattle.rh_il.specs.Op.{number_of};
@@ -10,7 +10,7 @@ ghost use Rattle.rh_ground.specs.Match.{is_variable};
 ghost use Rattle.rh_ground.specs.SameFact.{args_eq, is_fact_under};
 
 use crate::matching::{is_variable, matches};
-use rh_domain::{Domain, arg_under};
+use rh_domain::{Args, Domain, arg_under};
 use rh_il::{Node, Op, Proc, Value};
 use rh_rule::{Arg, Conclusion, FactUse, Form, Rule, RuleBase, Side, SideTerm};
 
@@ -133,6 +133,21 @@ pub fn is_instance(proc: &Proc, domain: &Domain, rule: &Rule, binding: &[Arg], n
         && do_sides_hold(binding, rule.sides.as_slice())
         && are_facts_in(domain, rule.premises.as_slice())
         && is_conclusion_in(domain, &rule.conclusion)
+}
+
+/// What operands stand for under a binding, where there are no more than six.
+pub fn args_under(binding: &[Arg], bases: &[RuleBase]) -> Option<Args>
+    ensures found { IfSome result (λ args. args ≡ map (arg_under binding.now) bases.now) }
+    ensures none { IfNone result (6 < length bases.now) }
+{
+    if bases.len() > 6 {
+        return None;
+    }
+    let mut args = Args::new();
+    for base in bases {
+        args.push(arg_under(binding, *base));
+    }
+    Some(args)
 }
 
 fn are_args_under(binding: &[Arg], bases: &[RuleBase], args: &[Arg]) -> bool

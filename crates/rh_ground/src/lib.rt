@@ -6,10 +6,12 @@ mod fixed;
 mod forms;
 mod instance;
 mod matching;
+mod visit;
 mod wanted;
 
 pub use find::first_binding;
 pub use fixed::{agreed, fixed_by_fact, fixed_by_pattern, fixed_by_rule};
-pub use instance::{is_fact_under, is_instance};
+pub use instance::{args_under, is_fact_under, is_instance};
 pub use matching::template_under;
+pub use visit::{Visitor, visit_bindings};
 pub use wanted::Wanted;

@@ -5,6 +5,7 @@ ghost use Rattle.rh_meaning.specs.Holds.{HasCell, HaveCells};
 
 use crate::programs::random_program;
 use crate::random::Random;
+use crate::rules::{grounded, rule_file};
 use rh_admit::admit;
 use rh_domain::FactAt;
 use rh_il::Program;
@@ -12,7 +13,6 @@ use rh_il_step::{Outcome, State, start, starts_are_states, step};
 use rh_meaning::holds;
 use rh_rows::Ground;
 use rh_rule::{Arg, RuleFile, Ruling, Schema};
-use rh_rule_text::read_rules;
 use rh_system::greatest;
 use std::alloc::Global;
 use std::process::Abort;
@@ -28,36 +28,11 @@ const SEED: u64 = 9;
 /// The most steps of a run.
 const STEPS: u32 = 60;
 
-/// Standard rules on pointers and calls, and what comes before them.
-const RULES: &[u8] = b"fact con(var X, const C) means X == C;
-fact pts(var P, var X) means P == &X;
-fact npt(var P, var X) means P != &X;
-fact una(var X) means unaliased(X);
-rule con_entry(var A, var X) { entry(A) when A != X => con(X, 0) @ out }
-rule una_entry(var A, var X) { entry(A) => una(X) @ out }
-rule npt_entry(var A, var P, var X) { entry(A) => npt(P, X) @ out }
-rule con_gen(var X, const C) { X := C => con(X, C) @ out }
-rule con_any(var X, const C, var Y) { Y := _ when con(X, C) @ in, X != Y => con(X, C) @ out }
-rule con_write(var X, const C, var P) { *P := _ when con(X, C) @ in, una(X) @ in => con(X, C) @ out }
-rule con_npt(var X, const C, var P) { *P := _ when con(X, C) @ in, npt(P, X) @ in => con(X, C) @ out }
-rule con_call(var X, const C, var Z) { Z := call(_) when con(X, C) @ in, una(X) @ in, X != Z => con(X, C) @ out }
-rule una_num(var X, var Y, const C) { Y := C when una(X) @ in => una(X) @ out }
-rule una_copy(var X, var Y, var A) { Y := A when una(X) @ in => una(X) @ out }
-rule una_addr(var X, var Y, var Z) { Y := &Z when una(X) @ in, X != Z => una(X) @ out }
-rule una_load(var X, var Y, var Z) { Y := *Z when una(X) @ in => una(X) @ out }
-rule una_write(var X, var P, var A) { *P := A when una(X) @ in => una(X) @ out }
-rule una_new(var X, var Y) { Y := new when una(X) @ in => una(X) @ out }
-rule una_call(var X, var Z) { Z := call(_) when una(X) @ in => una(X) @ out }
-rule npt_any(var P, var X, var Y) { Y := _ when npt(P, X) @ in, P != Y => npt(P, X) @ out }
-rule pts_gen(var P, var X) { P := &X => pts(P, X) @ out }
-rule pts_any(var P, var X, var Z) { Z := _ when pts(P, X) @ in, P != Z => pts(P, X) @ out }
-";
-
 /// The rule file, and that each of its rules is proved.
 fn proved_rules(
     rt: &(impl Alloc<A = Global> + Abort + Threads + Sync),
 ) -> Result<(RuleFile, Vec<Ruling>), Fail> {
-    let file = read_rules(rt.alloc(), RULES).map_err(|_| "no rule file")?;
+    let file = rule_file(rt.alloc())?;
     let mut rulings = Vec::new(rt.alloc());
     for admission in admit(rt, rt.alloc(), &file).map_err(|_| "no rulings")? {
         assert!(rt; admission.ruling() == Ruling::Admitted);
@@ -73,8 +48,7 @@ fn known_facts(
     rulings: &[Ruling],
     program: &Program,
 ) -> Result<Vec<FactAt>, Fail> {
-    assert!(rt; file.rules().len() == rulings.len());
-    let ground = Ground::new(rt.alloc(), file, rulings, program).map_err(|_| "too many facts")?;
+    let ground = grounded(rt, file, rulings, program)?;
     let words = greatest(rt.alloc(), &ground)?;
     facts_of(rt.alloc(), &ground, words.as_slice())
 }

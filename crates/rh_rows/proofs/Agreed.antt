@@ -14,11 +14,12 @@ use Rattle.rh_domain.specs.Binding.{Binding, arg_under}
 use Rattle.rh_ground.specs.Fixed.{Agrees, Fixes}
 use Rattle.rh_ground.specs.Instance.{is_instance}
 use Rattle.rh_ground.specs.SameFact.{args_eq}
+use Rattle.rh_system.specs.Bits.{BitSet}
 use Rattle.rh_rows.specs.Support.{gives}
 
-module _ (schemas : List Schema) (procs : List Proc) (words : List ℕ) (at : FactAt) (proc : Proc) (rule : Rule) (concluded : FactUse) where
+module _ (schemas : List Schema) (procs : List Proc) (set : BitSet) (at : FactAt) (proc : Proc) (rule : Rule) (concluded : FactUse) where
   -- a binding under which the rule gives the fact passes the test of the rule and that of the fact
-  both_pass : (binding : Binding) → gives schemas procs words at proc rule concluded binding ≡ true
+  both_pass : (binding : Binding) → gives schemas procs set at proc rule concluded binding ≡ true
       → (is_instance proc rule binding at.edge.node && args_eq (map (arg_under binding) concluded.args) at.fact.args) ≡ true
   both_pass binding given =
       let parts = and_parts _ _ given in
@@ -29,7 +30,7 @@ module _ (schemas : List Schema) (procs : List Proc) (words : List ℕ) (at : Fa
   pub agreed_fixes : (meta : ℕ) (node : Node) (args : List Arg) (by_rule by_fact result : Option Arg) → node ≡ at.edge.node → args ≡ at.fact.args → Agrees by_rule by_fact result
       → IfSome by_rule (Fixes (λ binding. is_instance proc rule binding node) meta)
       → IfSome by_fact (Fixes (λ binding. args_eq (map (arg_under binding) concluded.args) args) meta)
-      → IfSome result (Fixes (gives schemas procs words at proc rule concluded) meta)
+      → IfSome result (Fixes (gives schemas procs set at proc rule concluded) meta)
   agreed_fixes meta node args by_rule by_fact result node_is args_are agrees rule_fixes fact_fixes =
       let of_rule = subst (λ (n : Node). IfSome by_rule (Fixes (λ binding. is_instance proc rule binding n) meta)) node_is rule_fixes in
       let of_fact = subst (λ (xs : List Arg). IfSome by_fact (Fixes (λ binding. args_eq (map (arg_under binding) concluded.args) xs) meta)) args_are fact_fixes in

@@ -16,7 +16,7 @@ use Rattle.rh_system.specs.declared.system.Row.{Row}
 use Rattle.rh_system.specs.Bits.{BitSet, bits_in}
 use Rattle.rh_system.specs.Rows.{IsGreatest as HasGreatestBits, IsSupported as HasRows, supports}
 use Rattle.rh_rows.specs.BitRows.{HasBit, bit_of, rows_of}
-use Rattle.rh_rows.specs.Known.{is_fact_of, known_in}
+use Rattle.rh_rows.specs.Known.{is_fact_of, known_by, known_in}
 use Rattle.rh_rows.proofs.BitNumbers.{bit_is}
 use Rattle.rh_rows.proofs.Covered.{conclusion_has_bit, premises_have_bits}
 use Rattle.rh_rows.proofs.Items.{all_of_items, each_passes, in_map, item_has, passes_item, some_item, some_passes}
@@ -53,11 +53,7 @@ module _ (file : Rules) (rulings : List Ruling) (procs : List Proc) (is_file : I
   pub is_bit : (fact : FactAt) → HasBit file.schemas procs fact → IsBitOf file.schemas procs (bit_at fact) fact
   is_bit fact has = subst (λ bit. IsBitOf file.schemas procs bit fact) (bit_is file.schemas procs has.0 fact has.1) has.1
 
-  -- the facts of a set of bits
-  abbrev facts_with : BitSet → Known
-  facts_with set fact = is_fact_of file.schemas procs fact && set (bit_at fact)
-
-  facts_supported : (set : BitSet) → HasRows rows set → IsSupported file.rules rulings procs (facts_with set)
+  facts_supported : (set : BitSet) → HasRows rows set → IsSupported file.rules rulings procs (known_by file.schemas procs set)
   facts_supported set supported fact is_known =
       let parts = and_parts (is_fact_of file.schemas procs fact) (set (bit_at fact)) is_known in
       let by = supporting rows set (bit_at fact) (supported (bit_at fact) parts.1) in
@@ -69,7 +65,7 @@ module _ (file : Rules) (rulings : List Ruling) (procs : List Proc) (is_file : I
       let within = sym (ap (list_all set) of.premises_are) ∙ by.within in (
         of.premises,
         subst (λ (c : FactAt). IsRow file.rules rulings procs c of.premises) same of.is,
-        all_of_items (λ (premise : FactAt). IsTrue (facts_with set premise)) of.premises
+        all_of_items (λ (premise : FactAt). IsTrue (known_by file.schemas procs set premise)) of.premises
             (λ premise there. and_from (is_fact_of file.schemas procs premise) (set (bit_at premise))
             (is_fact file.schemas procs premise (premises_have_bits file rulings procs is_file of.conclusion of.premises of.is premise there))
             (passes_item set (map bit_at of.premises) (bit_at premise) within (in_map bit_at premise of.premises there))),
@@ -116,7 +112,7 @@ module _ (file : Rules) (rulings : List Ruling) (procs : List Proc) (is_file : I
     λ is.
         let parts = and_parts (is_fact_of file.schemas procs fact) (bits_in words (bit_at fact)) is in
         let within = (greatest (bit_at fact)).0 parts.1 in
-        (facts_with within.0, facts_supported within.0 within.1, and_from (is_fact_of file.schemas procs fact) (within.0 (bit_at fact)) parts.0 within.2),
+        (known_by file.schemas procs within.0, facts_supported within.0 within.1, and_from (is_fact_of file.schemas procs fact) (within.0 (bit_at fact)) parts.0 within.2),
     λ other.
         let has = has_its_bit other.0 other.1 fact other.2 in
         and_from (is_fact_of file.schemas procs fact) (bits_in words (bit_at fact)) (is_fact file.schemas procs fact has)

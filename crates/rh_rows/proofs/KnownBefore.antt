@@ -1,4 +1,4 @@
--- A fact that stands in words on the edges before a node.
+-- A fact that is known on the edges before a node.
 use Rattle.std.proofs.Common.{ℕ, zero, suc, ◌≡◌, ◌<◌, ◌≤◌, ◌==◌, ◌&&◌, Bool, true, false, List, [], ◌∷◌, length, Option, Some, None, refl, ap, sym, ◌∙◌, arith}
 use Rattle.std.specs.List.{flat_map, list_all}
 use Rattle.std.specs.Option.{option_map_or}
@@ -26,9 +26,9 @@ use Rattle.rh_layout.specs.Bits.{IsBitOf}
 use Rattle.rh_layout.specs.Entering.{numbers_before}
 use Rattle.rh_layout.specs.Layout.{IsBitOn}
 use Rattle.rh_layout.proofs.EnteringEdges.{tested_at}
-use Rattle.rh_system.specs.Bits.{bits_in}
+use Rattle.rh_system.specs.Bits.{BitSet}
 use Rattle.rh_rows.specs.BitRows.{bit_of}
-use Rattle.rh_rows.specs.Known.{is_fact_of, known_in, known_on}
+use Rattle.rh_rows.specs.Known.{is_fact_of, known_by, known_on}
 use Rattle.rh_rows.proofs.BitNumbers.{bit_is}
 use Rattle.rh_rows.proofs.ProgramFacts.{has_bit, is_fact}
 
@@ -51,52 +51,52 @@ args_as_params domain (param ∷ params) number args read =
     let parts = apart domain param params number args read in
     ap length parts.whole ∙ ap suc (args_as_params domain params parts.left parts.rest parts.others)
 
-module _ (schemas : List Schema) (procs : List Proc) (words : List ℕ) where
-  few_args : AreFew schemas → (bit : ℕ) (fact : FactAt) → IsBitOf schemas procs bit fact → length fact.fact.args ≤ 6
-  few_args few bit fact is =
-      let stands = fact_stands (domain_of is.proc) schemas is.number fact.fact is.fact_at in
-      let size = args_as_params (domain_of is.proc) stands.shape.params stands.within fact.fact.args stands.args_at in
-      let most = has_at (λ (schema : Schema). length schema.params ≤ 6) schemas fact.fact.schema stands.shape few.params_few stands.shape_at in
-      omega (arith, size, most)
+pub few_args : (schemas : List Schema) (procs : List Proc) → AreFew schemas → (bit : ℕ) (fact : FactAt) → IsBitOf schemas procs bit fact → length fact.fact.args ≤ 6
+few_args schemas procs few bit fact is =
+    let stands = fact_stands (domain_of is.proc) schemas is.number fact.fact is.fact_at in
+    let size = args_as_params (domain_of is.proc) stands.shape.params stands.within fact.fact.args stands.args_at in
+    let most = has_at (λ (schema : Schema). length schema.params ≤ 6) schemas fact.fact.schema stands.shape few.params_few stands.shape_at in
+    omega (arith, size, most)
 
+module _ (schemas : List Schema) (procs : List Proc) (set : BitSet) where
   -- what has no bit is not known
-  unknown : (fact : FactAt) → ((bit : ℕ) → IsBitOf schemas procs bit fact → ⊥) → known_in schemas procs words fact ≡ false
+  unknown : (fact : FactAt) → ((bit : ℕ) → IsBitOf schemas procs bit fact → ⊥) → known_by schemas procs set fact ≡ false
   unknown fact none =
-      elim (is_fact_of schemas procs fact) as (λ b. is_fact_of schemas procs fact ≡ b → (b && bits_in words (bit_of schemas procs fact)) ≡ false) [
+      elim (is_fact_of schemas procs fact) as (λ b. is_fact_of schemas procs fact ≡ b → (b && set (bit_of schemas procs fact)) ≡ false) [
         | true ↦ λ is. let has = has_bit schemas procs fact is in absurd (none has.0 has.1)
         | false ↦ λ is. refl
       ] refl
 
-  known : (bit : ℕ) (fact : FactAt) → IsBitOf schemas procs bit fact → bits_in words bit ≡ known_in schemas procs words fact
-  known bit fact is = ap (bits_in words) (bit_is schemas procs bit fact is) ∙ sym (ap (λ b. b && bits_in words (bit_of schemas procs fact)) (is_fact schemas procs fact (bit, is)))
+  known : (bit : ℕ) (fact : FactAt) → IsBitOf schemas procs bit fact → set bit ≡ known_by schemas procs set fact
+  known bit fact is = ap set (bit_is schemas procs bit fact is) ∙ sym (ap (λ b. b && set (bit_of schemas procs fact)) (is_fact schemas procs fact (bit, is)))
 
   module _ (place : ℕ) (proc : Proc) (proc_at : slice_get procs place ≡ Some proc) where
-    pub known_by_bit : (fact : GroundFact) (edge bit : ℕ) → IsBitOn schemas procs place edge fact bit → bits_in words bit ≡ known_on schemas procs words place proc fact edge
+    pub known_by_bit : (fact : GroundFact) (edge bit : ℕ) → IsBitOn schemas procs place edge fact bit → set bit ≡ known_on schemas procs set place proc fact edge
     known_by_bit fact edge bit on =
         let same : on.shape ≡ proc = same_Some on.shape proc (sym on.shape_at ∙ proc_at) in
         let at : slice_get (edges_of proc) edge ≡ Some on.on = ap (λ (p : Proc). slice_get (edges_of p) edge) (sym same) ∙ on.on_at in
         known bit (record { proc = place; edge = on.on; fact = fact }) on.is
-        ∙ sym (ap (λ found. option_map_or (λ e. known_in schemas procs words (record { proc = place; edge = e; fact = fact })) found false) at)
+        ∙ sym (ap (λ found. option_map_or (λ e. known_by schemas procs set (record { proc = place; edge = e; fact = fact })) found false) at)
 
     -- where no edge gives the fact a bit, it is known on none
-    pub known_nowhere : (fact : GroundFact) (edge : ℕ) → ((bit : ℕ) → IsBitOn schemas procs place edge fact bit → ⊥) → known_on schemas procs words place proc fact edge ≡ false
+    pub known_nowhere : (fact : GroundFact) (edge : ℕ) → ((bit : ℕ) → IsBitOn schemas procs place edge fact bit → ⊥) → known_on schemas procs set place proc fact edge ≡ false
     known_nowhere fact edge none = by (slice_get (edges_of proc) edge) refl
       where
-        by : (o : Option Edge) → slice_get (edges_of proc) edge ≡ o → option_map_or (λ e. known_in schemas procs words (record { proc = place; edge = e; fact = fact })) o false ≡ false
+        by : (o : Option Edge) → slice_get (edges_of proc) edge ≡ o → option_map_or (λ e. known_by schemas procs set (record { proc = place; edge = e; fact = fact })) o false ≡ false
         by None at = refl
         by (Some on) at = unknown (record { proc = place; edge = on; fact = fact }) (λ bit is. none bit (record { shape = proc; shape_at = proc_at; on = on; on_at = at; is = is }))
 
     pub known_before : (node : Node) (entering : List ℕ) (fact : GroundFact) → entering ≡ numbers_before proc node
-        → list_all (known_on schemas procs words place proc fact) entering ≡ list_all (known_in schemas procs words) (on_edges place (edges_before proc node) fact)
-    known_before Entry entering fact are = ap (list_all (known_on schemas procs words place proc fact)) are
+        → list_all (known_on schemas procs set place proc fact) entering ≡ list_all (known_by schemas procs set) (on_edges place (edges_before proc node) fact)
+    known_before Entry entering fact are = ap (list_all (known_on schemas procs set place proc fact)) are
     known_before (At number) entering fact are =
-        ap (list_all (known_on schemas procs words place proc fact)) are
-        ∙ tested_at (λ e. known_in schemas procs words (record { proc = place; edge = e; fact = fact })) proc number
-        ∙ sym (list_all-map (known_in schemas procs words) (λ (e : Edge). record { proc = place; edge = e; fact = fact }) (edges_before proc (At number)))
+        ap (list_all (known_on schemas procs set place proc fact)) are
+        ∙ tested_at (λ e. known_by schemas procs set (record { proc = place; edge = e; fact = fact })) proc number
+        ∙ sym (list_all-map (known_by schemas procs set) (λ (e : Edge). record { proc = place; edge = e; fact = fact }) (edges_before proc (At number)))
 
     pub many_unknown : AreFew schemas → (node : Node) (entering : List ℕ) (fact : GroundFact) → 6 < length fact.args → entering ≡ numbers_before proc node
-        → (length entering == 0) ≡ list_all (known_in schemas procs words) (on_edges place (edges_before proc node) fact)
+        → (length entering == 0) ≡ list_all (known_by schemas procs set) (on_edges place (edges_before proc node) fact)
     many_unknown few node entering fact many are =
-        none_passes (known_on schemas procs words place proc fact) entering
-        (λ edge. known_nowhere fact edge (λ bit on. let most = few_args few bit (record { proc = place; edge = on.on; fact = fact }) on.is in absurd (omega (arith, most, many))))
+        none_passes (known_on schemas procs set place proc fact) entering
+        (λ edge. known_nowhere fact edge (λ bit on. let most = few_args schemas procs few bit (record { proc = place; edge = on.on; fact = fact }) on.is in absurd (omega (arith, most, many))))
         ∙ known_before node entering fact are

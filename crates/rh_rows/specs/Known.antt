@@ -1,4 +1,4 @@
--- The facts whose bits stand in words.
+-- The facts whose bits are in a set, such as the bits that stand in words.
 use Rattle.std.specs.Prelude.{ℕ, ◌==◌, Bool, true, false, ◌&&◌, List, slice_get}
 use Rattle.std.specs.List.{list_any}
 use Rattle.std.specs.Option.{option_map_or}
@@ -14,7 +14,7 @@ use Rattle.rh_domain.specs.declared.fact.FactAt.{FactAt}
 use Rattle.rh_domain.specs.declared.fact.GroundFact.{GroundFact}
 use Rattle.rh_domain.specs.Facts.{Known, all_facts}
 use Rattle.rh_ground.specs.SameFact.{fact_eq}
-use Rattle.rh_system.specs.Bits.{bits_in}
+use Rattle.rh_system.specs.Bits.{BitSet, bits_in}
 use Rattle.rh_rows.specs.BitRows.{bit_of}
 
 abbrev pub slot_eq : Slot → Slot → Bool
@@ -39,11 +39,15 @@ fact_at_eq a b = a.proc == b.proc && (node_eq a.edge.node b.edge.node && (slot_e
 abbrev pub is_fact_of : List Schema → List Proc → FactAt → Bool
 is_fact_of schemas procs fact = list_any (fact_at_eq fact) (all_facts schemas procs)
 
--- the facts of the program whose bits stand in the words
+-- the facts of the program whose bits are in the set
+abbrev pub known_by : List Schema → List Proc → BitSet → Known
+known_by schemas procs set fact = is_fact_of schemas procs fact && set (bit_of schemas procs fact)
+
+-- and those whose bits stand in the words
 abbrev pub known_in : List Schema → List Proc → List ℕ → Known
-known_in schemas procs words fact = is_fact_of schemas procs fact && bits_in words (bit_of schemas procs fact)
+known_in schemas procs words = known_by schemas procs (bits_in words)
 
 -- whether a fact is known on the edge with a number, where a procedure has this edge
-abbrev pub known_on : List Schema → List Proc → List ℕ → ℕ → Proc → GroundFact → ℕ → Bool
-known_on schemas procs words place proc fact edge =
-    option_map_or (λ on. known_in schemas procs words (record { proc = place; edge = on; fact = fact })) (slice_get (edges_of proc) edge) false
+abbrev pub known_on : List Schema → List Proc → BitSet → ℕ → Proc → GroundFact → ℕ → Bool
+known_on schemas procs set place proc fact edge =
+    option_map_or (λ on. known_by schemas procs set (record { proc = place; edge = on; fact = fact })) (slice_get (edges_of proc) edge) false

@@ -23,6 +23,7 @@ use rh_il::{Edge, Node, Program};
 use rh_layout::{Layout, LayoutFault};
 use rh_list::Items;
 use rh_rule::{RuleFile, Ruling};
+use rh_system::InWords;
 use std::alloc::Global;
 
 /// A rule file, whether each rule is proved, and a program, with the bits of the facts on the program's edges.
@@ -153,7 +154,7 @@ impl Ground {
     {
         let site = self.site(place, node)?;
         let rule = self.file.rules().get(rule as usize)?;
-        first_known(&site, words, rule)
+        first_known(&site, &InWords { words }, rule)
     }
 }
 

@@ -40,12 +40,12 @@ pub fn greatest_is_known()
     ensures { GreatestIsKnown }
 {}
 
-/// The rows support the bit of a fact exactly if some rule gives the fact.
+/// By any set of bits, the rows support the bit of a fact exactly if some rule gives the fact.
 pub fn support_is_by_rules()
     ensures { SupportIsByRules }
 {}
 
-/// The rows support no bit that stands for no fact.
+/// By no set of bits do the rows support a bit that stands for no fact.
 pub fn nothing_is_supported()
     ensures { NothingIsSupported }
 {}

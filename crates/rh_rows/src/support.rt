@@ -2,6 +2,8 @@
 ghost use Rattle.std.specs.Prelude.{◌≡◌, ◌≤◌, length};
 ghost use Rattle.rh_list.specs.Each.{Each};
 ghost use Rattle.rh_rule.specs.declared.rule.Rule.{Rule as ARule};
+ghost use Rattle.rh_system.specs.Rows.{supports};
+ghost use Rattle.rh_rows.specs.BitRows.{rows_of};
 ghost use Rattle.rh_rows.specs.Support.{gives, is_given, is_headed, rule_gives, rules_give, some_gives};
 
 use crate::ground::Ground;
@@ -13,39 +15,39 @@ use rh_ground::{
 };
 use rh_il::Slot;
 use rh_rule::{Arg, Conclusion, FactUse, Rule, Ruling};
-use rh_system::System;
+use rh_system::{BitTest, InWords, System};
 
-/// A fact that is looked for, the node that its edge leaves, and words in which the premises have to stand.
-#[derive(Clone, Copy)]
-struct Sought<'a> {
+/// A fact that is looked for, the node that its edge leaves, and the set that has to hold the bits of the premises.
+#[derive(Drop)]
+struct Sought<'a, T> {
     site: Site<'a>,
-    words: &'a [u64],
+    known: &'a T,
     fact: &'a FactAt,
     ghost place_is: { site.place ≡ fact.now.proc },
     ghost node_is: { site.node ≡ fact.now.edge.node },
 }
 
 /// A search for a binding under which a rule with this conclusion gives a fact.
-#[derive(Clone, Copy)]
-struct Giving<'a> {
-    sought: Sought<'a>,
+#[derive(Drop)]
+struct Giving<'a, T> {
+    sought: &'a Sought<'a, T>,
     rule: &'a Rule,
     concluded: &'a FactUse,
 }
 
-impl Wanted for Giving<'_> {
-    ghost accepts = { λ s. gives s.sought.site.schemas.now s.sought.site.program.now s.sought.words.now s.sought.fact.now s.sought.site.proc.now s.rule.now s.concluded.now };
+impl<T: BitTest> Wanted for Giving<'_, T> {
+    ghost accepts = { λ s. gives s.sought.now.site.schemas.now s.sought.now.site.program.now (T.holds s.sought.now.known.now) s.sought.now.fact.now s.sought.now.site.proc.now s.rule.now s.concluded.now };
 
     fn accepts(&self, binding: &[Arg]) -> bool {
-        let site = self.sought.site;
+        let site = &self.sought.site;
         let fact = &self.sought.fact.fact;
         is_instance(site.proc, site.domain, self.rule, binding, site.node)
             && is_fact_under(binding, self.concluded, fact.schema, fact.args.as_slice())
-            && premises_known(&site, self.sought.words, self.rule, binding)
+            && premises_known(site, self.sought.known, self.rule, binding)
     }
 
     fn fixed(&self, meta: u32) -> Option<Arg> {
-        let site = self.sought.site;
+        let site = &self.sought.site;
         let args = self.sought.fact.fact.args.as_slice();
         agreed(
             fixed_by_rule(site.proc, self.rule, site.node, meta),
@@ -62,12 +64,12 @@ fn is_headed(fact: &FactAt, concluded: &FactUse, slot: Slot) -> bool
 }
 
 /// Whether the rule, which concludes this, gives the fact under some binding.
-fn some_gives(sought: &Sought, rule: &Rule, concluded: &FactUse) -> bool
+fn some_gives<T: BitTest>(sought: &Sought<T>, rule: &Rule, concluded: &FactUse) -> bool
     requires { length rule.now.params ≤ 6 }
-    ensures { result ≡ some_gives sought.now.site.schemas.now sought.now.site.program.now sought.now.words.now sought.now.fact.now sought.now.site.proc.now rule.now concluded.now }
+    ensures { result ≡ some_gives sought.now.site.schemas.now sought.now.site.program.now (T.holds sought.now.known.now) sought.now.fact.now sought.now.site.proc.now rule.now concluded.now }
 {
     let giving = Giving {
-        sought: *sought,
+        sought,
         rule,
         concluded,
     };
@@ -75,9 +77,9 @@ fn some_gives(sought: &Sought, rule: &Rule, concluded: &FactUse) -> bool
 }
 
 /// Whether the rule gives the fact. Refused rules and other conclusions are passed over before any binding is tried.
-fn rule_gives(sought: &Sought, rule: &Rule, ruling: Ruling) -> bool
+fn rule_gives<T: BitTest>(sought: &Sought<T>, rule: &Rule, ruling: Ruling) -> bool
     requires { length rule.now.params ≤ 6 }
-    ensures { result ≡ rule_gives sought.now.site.schemas.now sought.now.site.program.now sought.now.words.now sought.now.fact.now sought.now.site.proc.now rule.now ruling rule.now.conclusion }
+    ensures { result ≡ rule_gives sought.now.site.schemas.now sought.now.site.program.now (T.holds sought.now.known.now) sought.now.fact.now sought.now.site.proc.now rule.now ruling rule.now.conclusion }
 {
     match (ruling, &rule.conclusion) {
         (Ruling::Admitted, Conclusion::Fact { fact, slot }) => {
@@ -88,9 +90,9 @@ fn rule_gives(sought: &Sought, rule: &Rule, ruling: Ruling) -> bool
 }
 
 /// Whether some rule gives the fact.
-fn rules_give(sought: &Sought, rules: &[Rule], rulings: &[Ruling]) -> bool
+fn rules_give<T: BitTest>(sought: &Sought<T>, rules: &[Rule], rulings: &[Ruling]) -> bool
     requires { Each (λ (rule : ARule). length rule.params ≤ 6) rules.now }
-    ensures { result ≡ rules_give sought.now.site.schemas.now sought.now.site.program.now sought.now.words.now sought.now.fact.now sought.now.site.proc.now rules.now rulings.now }
+    ensures { result ≡ rules_give sought.now.site.schemas.now sought.now.site.program.now (T.holds sought.now.known.now) sought.now.fact.now sought.now.site.proc.now rules.now rulings.now }
 {
     let mut left = rulings;
     for rule in rules {
@@ -106,20 +108,32 @@ fn rules_give(sought: &Sought, rules: &[Rule], rulings: &[Ruling]) -> bool
 }
 
 /// Whether some rule of the file gives the fact.
-fn is_given(ground: &Ground, rules: &[Rule], words: &[u64], fact: &FactAt) -> bool
+fn is_given<T: BitTest>(ground: &Ground, rules: &[Rule], known: &T, fact: &FactAt) -> bool
     requires rules { rules.now ≡ ground.now.file.rules }
     requires few { Each (λ (rule : ARule). length rule.params ≤ 6) rules.now }
-    ensures { result ≡ is_given ground.now.file ground.now.rulings ground.now.program words.now fact.now }
+    ensures { result ≡ is_given ground.now.file ground.now.rulings ground.now.program (T.holds known.now) fact.now }
 {
     match ground.site(fact.proc, fact.edge.node) {
-        Some(site) => rules_give(&Sought { site, words, fact }, rules, ground.rulings()),
+        Some(site) => rules_give(&Sought { site, known, fact }, rules, ground.rulings()),
         None => false,
+    }
+}
+
+impl Ground {
+    /// Whether some row of the bit has all of its premises in the set.
+    pub fn supported_by<T: BitTest>(&self, known: &T, bit: u64) -> bool
+        ensures { result ≡ supports (rows_of self.now.file self.now.rulings self.now.program) (T.holds known.now) bit }
+    {
+        let rules = self.file().rules();
+        match self.fact_of(bit) {
+            Some(fact) => is_given(self, rules, known, &fact),
+            None => false,
+        }
     }
 }
 
 impl System for Ground {
     ghost use Rattle.rh_layout.specs.Bits.{full_words};
-    ghost use Rattle.rh_rows.specs.BitRows.{rows_of};
 
     ghost full_words = { λ g. full_words g.file.schemas g.program };
 
@@ -134,11 +148,7 @@ impl System for Ground {
     }
 
     fn supported(&self, words: &[u64], bit: u64) -> bool {
-        let rules = self.file().rules();
-        match self.fact_of(bit) {
-            Some(fact) => is_given(self, rules, words, &fact),
-            None => false,
-        }
+        self.supported_by(&InWords { words }, bit)
     }
 
     ghost use Rattle.rh_system.specs.Covered.{covered_by_all};

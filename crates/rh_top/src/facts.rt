@@ -8,8 +8,8 @@ ghost use Rattle.rh_audit.specs.Audit.{HaveFewTerms};
 ghost use Rattle.rh_top.specs.Counts.{HaveRoom, RefusesCounts, of_layout};
 ghost use Rattle.rh_top.specs.Result.{IsCounted, IsResult};
 
+use crate::analysis::analyse;
 use crate::ruled::ruled;
-use rh_engine::solve;
 use rh_il::{Program, numbers_fit};
 use rh_layout::LayoutFault;
 use rh_outside::Gate;
@@ -84,8 +84,8 @@ pub(crate) fn result_of<R: Threads + Sync, G: Gate + Sync>(
     is_rule_file(ground.file());
     numbers_fit(ground.program());
     passes_checks(ground.program());
-    let solved = solve(rt, alloc, ground, workers, gate)?;
-    let words = solved.words.as_slice();
+    let analysed = analyse(rt, alloc, ground, workers, gate)?;
+    let words = analysed.words.as_slice();
     let rewritten = rewrite(alloc, ground, words)?;
     report(alloc, ground, words, &rewritten)
 }
@@ -104,6 +104,6 @@ pub(crate) fn counts_of<R: Threads + Sync, G: Gate + Sync>(
     ensures { IfOk result (λ text. IsCounted ground.now.file ground.now.program text.items) }
 {
     is_rule_file(ground.file());
-    let solved = solve(rt, alloc, ground, workers, gate)?;
-    counts(alloc, ground, solved.words.as_slice())
+    let analysed = analyse(rt, alloc, ground, workers, gate)?;
+    counts(alloc, ground, analysed.words.as_slice())
 }

@@ -1,6 +1,7 @@
 //! The top call: one command line, done over a shelf and a sink.
 #![tactic(auto)]
 
+mod analysis;
 mod audited;
 mod facts;
 mod input;
@@ -14,6 +15,7 @@ ghost use Rattle.rh_il.specs.declared.program.Proc.{Proc};
 ghost use Rattle.rh_rule.specs.RuleFiles.{Rules};
 ghost use Rattle.rh_top.specs.One.{HasOneOutput};
 
+pub use analysis::{Analysed, analyse};
 pub use top::rhodium;
 
 /// A rule file and a program have one output by `opt`, and one by `gen`: the same for every number of workers, and

@@ -9,7 +9,7 @@ use std::test::Fail;
 use std::thread::{self, Threads};
 
 /// A fact that flows around a loop with a branch.
-const RULES: &[u8] = b"fact con(var X, const C) means X == C;
+pub(crate) const RULES: &[u8] = b"fact con(var X, const C) means X == C;
 rule con_gen(var X, const C) { X := C => con(X, C) @ out }
 rule con_skip(var X, const C) { skip when con(X, C) @ in => con(X, C) @ out }
 rule con_goto(var X, const C) { goto when con(X, C) @ in => con(X, C) @ out }
@@ -18,7 +18,8 @@ rule con_else(var X, const C) { if _ when con(X, C) @ in => con(X, C) @ else }
 rule use_ret(var X, const C) { return X when con(X, C) @ in => transform return C }
 ";
 
-const PROGRAM: &[u8] = b"main(a) var y { y := 3; if a goto 2 else 4; skip; goto 1; return y; }";
+pub(crate) const PROGRAM: &[u8] =
+    b"main(a) var y { y := 3; if a goto 2 else 4; skip; goto 1; return y; }";
 
 /// A gate that lets each of two workers go on only after both have asked.
 #[derive(Drop)]

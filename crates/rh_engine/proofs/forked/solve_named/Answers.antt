@@ -22,11 +22,12 @@ gather-seat-requires-clause-stakes g c =
     let same : sum_by f ran ≡ sum_by f given = same_sums f given ran (sym c.run_all.auto.crew) c.run_all.ensures.stakes in
     ap (sum_by f) (take_at ran _ c.in_ok-crew.crew.len long) ∙ (same ∙ (ap (sum_by f) c.as_mut_slice.ensures.value ∙ c.in_ok-crew.ensures.stakes))
 
-pub gather-seat-requires-clause-loaded : goal.gather-seat-requires-clause-loaded
-gather-seat-requires-clause-loaded g c =
+pub close_loaded-requires-clause-loaded : goal.close_loaded-requires-clause-loaded
+close_loaded-requires-clause-loaded g c =
     let words = length g.N.SystemName.meaning.full in
     let ran : List Seen = c.run_all.new.crew in
     let given : List Seen = c.as_mut_slice.result.now in
     let long : length ran ≡ c.in_ok-crew.crew.len = omega (arith, c.run_all.auto.crew, c.as_mut_slice.ensures.len) in
     let fresh : All (HasLoaded words 0) given = subst (λ (ws : List Seen). All (HasLoaded words 0) ws) (sym c.as_mut_slice.ensures.value) c.in_ok-crew.ensures.fresh in
-    All-same (λ (w : Seen). HasLoaded words w.2 w) _ ran (take_at ran _ c.in_ok-crew.crew.len long) (loaded_afresh words given ran c.run_all.auto.crew fresh c.run_all.ensures.loads)
+    c.gather-seat.ensures.loaded
+    (All-same (λ (w : Seen). HasLoaded words w.2 w) _ ran (take_at ran _ c.in_ok-crew.crew.len long) (loaded_afresh words given ran c.run_all.auto.crew fresh c.run_all.ensures.loads))

@@ -4,6 +4,6 @@ use Rattle.rh_rows.proofs.support.rules_give.Given as goal
 
 -- the rules so far give nothing, so those that are left decide
 abbrev pub invariant-loop-rule : goal.invariant-loop-rule
-invariant-loop-rule l =
-    rules_give l.sought.site.schemas.now l.sought.site.program.now l.sought.words.now l.sought.fact.now l.sought.site.proc.now (drop l.rule-index l.rules) l.left
-    ≡ rules_give l.sought.site.schemas.now l.sought.site.program.now l.sought.words.now l.sought.fact.now l.sought.site.proc.now l.rules l.fn.rulings
+invariant-loop-rule g l =
+    rules_give l.sought.site.schemas.now l.sought.site.program.now (g.T.BitTest.holds l.sought.known.now) l.sought.fact.now l.sought.site.proc.now (drop l.rule-index l.rules) l.left
+    ≡ rules_give l.sought.site.schemas.now l.sought.site.program.now (g.T.BitTest.holds l.sought.known.now) l.sought.fact.now l.sought.site.proc.now l.rules l.fn.rulings

@@ -16,7 +16,7 @@ returns g c =
     let procs = c.args.ground.now.program in
     let words = c.as_slice.result.now in
     let is_file = subst IsRuleFile c.file.ensures c.is_rule_file.ensures in
-    let greatest = subst (IsGreatest (rows_of file rulings procs)) (sym c.as_slice.ensures.value) c.in_ok-solved.ensures.greatest in
+    let greatest = subst (IsGreatest (rows_of file rulings procs)) (sym c.as_slice.ensures.value) c.in_ok-analysed.ensures.greatest in
     of_one (λ (text : Vec ℕ Global). text.items ≡ counts_text file rulings (known_in file.schemas procs words) procs) (λ (text : Vec ℕ Global). IsCounted file procs text.items) c.counts.result
     (λ text is.
     record {

@@ -23,7 +23,7 @@ returns g c =
     let known = known_in file.schemas procs words in
     let after = c.in_ok-rewritten.rewritten in
     let is_file = subst IsRuleFile c.file.ensures c.is_rule_file.ensures in
-    let greatest = subst (IsGreatest (rows_of file rulings procs)) (sym c.as_slice-words.ensures.value) c.in_ok-solved.ensures.greatest in
+    let greatest = subst (IsGreatest (rows_of file rulings procs)) (sym c.as_slice-words.ensures.value) c.in_ok-analysed.ensures.greatest in
     of_ok (λ (text : Vec ℕ Global). text.items ≡ rule_lines file.rules rulings ++ fact_lines file.schemas procs known ++ program_text after)
     (λ (text : Vec ℕ Global). IsText text.items after)
     (λ (text : Vec ℕ Global). IsResult file procs text.items) c.report.result

@@ -1,0 +1,12 @@
+use Rattle.std.proofs.Common.{◌<◌, ◌∙◌, bit_or, ap, sym, subst, arith}
+use Rattle.atomic_table.specs.Seated.{TableId}
+use Rattle.rh_edge_words.proofs.Allowed.{allows_stay}
+use Rattle.rh_edge_words.proofs.words.EdgeWords.mark.Goals as goal
+
+pub fetch_or-requires : goal.fetch_or-requires
+fetch_or-requires g c =
+    let same = ap (λ p. p.0) c.self.view_is in (
+      ap (λ p. p.0) c.seat.view_is ∙ (c.requires.table ∙ sym same),
+      subst (λ (t : TableId). c.place_of_dirty-place.result < t.words) (sym same) (omega (arith, c.place_of_dirty-place.ensures, c.requires.in_range)),
+      allows_stay g.N.SystemName.meaning _ _ _ _ (λ n. bit_or n c.args.mask) (omega (arith, c.place_of_dirty-place.ensures)),
+    )

@@ -1,0 +1,72 @@
+//! Visits to all wanted bindings. Begin with `visit_bindings`.
+ghost use Rattle.std.specs.Prelude.{◌≡◌, ◌+◌, ◌≤◌, ◌++◌, ◌∷◌, [], length, map};
+ghost use Rattle.rh_domain.specs.Binding.{Binding, bindings_in};
+ghost use Rattle.rh_domain.specs.Count.{IsSmall};
+ghost use Rattle.rh_ground.specs.Visit.{VisitsWanted};
+
+use crate::find::{numbers_to_try, push_arg};
+use crate::wanted::Wanted;
+use rh_domain::{Args, Domain};
+use rh_rule::{Arg, Param};
+
+/// What is done with each wanted binding.
+pub trait Visitor: Wanted {
+    /// What the visits change.
+    type Kept;
+
+    // what a visit to a binding may make of it
+    ghost visits: { Self → Binding → Self.Kept → Self.Kept → Type 0 };
+
+    /// Visits a binding.
+    fn visit(&self, binding: &[Arg], kept: &mut Self::Kept)
+        ensures { visits self.now binding.now kept.old kept.new };
+}
+
+/// Visits all wanted bindings of parameters to variables and constants. A metavariable that is fixed is not enumerated.
+pub fn visit_bindings<V: Visitor>(
+    domain: &Domain,
+    params: &[Param],
+    visitor: &V,
+    kept: &mut V::Kept,
+)
+    requires small { IsSmall domain.now }
+    requires few { length params.now ≤ 6 }
+    ensures { VisitsWanted (V.visits visitor.now) (V.accepts visitor.now) (bindings_in domain.now params.now) kept.old kept.new }
+{
+    visit_after(domain, params, visitor, &mut Args::new(), kept);
+}
+
+/// Visits all wanted bindings that begin with the arguments that are there.
+fn visit_after<V: Visitor>(
+    domain: &Domain,
+    params: &[Param],
+    visitor: &V,
+    args: &mut Args,
+    kept: &mut V::Kept,
+)
+    requires small { IsSmall domain.now }
+    requires room { length args.old + length params.now ≤ 6 }
+    ensures args { args.new ≡ args.old }
+    ensures visited { VisitsWanted (V.visits visitor.now) (V.accepts visitor.now) (map (λ rest. args.old ++ rest) (bindings_in domain.now params.now)) kept.old kept.new }
+{
+    let Some((param, others)) = params.split_first() else {
+        visit_wanted(visitor, args.as_slice(), kept);
+        return;
+    };
+    let meta = args.len();
+    let (first, end) = numbers_to_try(domain, param.kind, visitor.fixed(meta as u32));
+    for number in first..end {
+        push_arg(domain, param.kind, number, args);
+        visit_after(domain, others, visitor, args, kept);
+        args.truncate(meta);
+    }
+}
+
+/// Visits a binding if it is wanted.
+fn visit_wanted<V: Visitor>(visitor: &V, binding: &[Arg], kept: &mut V::Kept)
+    ensures { VisitsWanted (V.visits visitor.now) (V.accepts visitor.now) (binding.now ∷ []) kept.old kept.new }
+{
+    if visitor.accepts(binding) {
+        visitor.visit(binding, kept);
+    }
+}

@@ -1,0 +1,12 @@
+pub mod FullEdge
+pub mod SparseRows
+pub mod GreatestBits
+pub mod Numbers
+pub mod PairCounts
+pub mod FewNodes
+pub mod Marking
+pub mod OwnBits
+pub mod EdgeSites
+pub mod RulesLeft
+pub mod Concluded
+pub mod Missing
