@@ -6,12 +6,14 @@
 Runs the command at the top of the repository, and looks twice a second at the provers that it
 starts. A prover in a crate's folder works on the crate's proof, or on that of its tests where it was
 given --test; one in a temporary folder tries a wrong body. What runs for less than half a second,
-and the tests and programs themselves, are left out. It is no part of the gate.
+and the tests and programs themselves, are left out of the table; the line under it has all. It is no
+part of the gate.
 """
 
 import collections
 import glob
 import os
+import resource
 import subprocess
 import sys
 import time
@@ -75,7 +77,9 @@ def main():
         print(f"| {crate} | {' | '.join(f'{it:.1f}' for it in row)} | {sum(row):.1f} |")
     sums = [sum(it[kind] for it in minutes.values()) for kind in KINDS]
     print(f"| all | {' | '.join(f'{it:.0f}' for it in sums)} | {sum(sums):.0f} |")
-    print(f"\n{(time.time() - start) / 60:.0f} minutes by the clock, {os.cpu_count()} processors")
+    usage = resource.getrusage(resource.RUSAGE_CHILDREN)
+    whole, clock = usage.ru_utime + usage.ru_stime, time.time() - start
+    print(f"\n{whole / 60:.0f} processor minutes in all, {clock / 60:.0f} by the clock, {os.cpu_count()} processors")
     return run.returncode
 
 

@@ -12,7 +12,7 @@ use Rattle.rh_rule.specs.declared.rule.Ruling.{Ruling}
 use Rattle.rh_rule.specs.declared.rule.Ruling.TheVariants.{Admitted as IsAdmittedRule, Refused as IsRefusedRule}
 use Rattle.rh_rule.specs.declared.schema.Schema.{Schema}
 use Rattle.rh_meaning.specs.Literal.{TreeLit}
-use Rattle.rh_oblig.specs.Goals.{goals}
+use Rattle.rh_goals.specs.Goals.{goals}
 use Rattle.rh_oblig.specs.Obligation.{IsAdmitted, IsShown, obligations_of}
 use Rattle.rh_oblig.specs.Ruling.{IsFirstOpen, IsRuling}
 use Rattle.rh_refuter.specs.declared.search.Verdict.TheVariants.{Closed, Open}

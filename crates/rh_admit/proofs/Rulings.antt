@@ -11,7 +11,7 @@ use Rattle.rh_rule.specs.declared.rule.Rule.{Rule}
 use Rattle.rh_rule.specs.declared.schema.Schema.{Schema}
 use Rattle.rh_term.specs.Partition.{IsOpen}
 use Rattle.rh_meaning.specs.Literal.{TreeLit}
-use Rattle.rh_oblig.specs.Goals.{goals}
+use Rattle.rh_goals.specs.Goals.{goals}
 use Rattle.rh_oblig.specs.Obligation.{IsShown, excess, obligations_of}
 use Rattle.rh_oblig.specs.Ruling.{IsRuling}
 use Rattle.rh_oblig.proofs.Each.{part_for}

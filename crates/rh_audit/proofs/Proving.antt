@@ -13,7 +13,7 @@ use Rattle.rh_log_text.specs.declared.logs.RuleLogs.{RuleLogs}
 use Rattle.rh_meaning.specs.Literal.{TreeLit}
 use Rattle.rh_oblig.specs.declared.obligation.ObligFault.{ObligFault}
 use Rattle.rh_oblig.specs.declared.obligation.ObligFault.TheVariants.{TooManyTerms as TooMany, NoMemory as NoRoom}
-use Rattle.rh_oblig.specs.Goals.{goals}
+use Rattle.rh_goals.specs.Goals.{goals}
 use Rattle.rh_oblig.specs.Obligation.{IsAdmitted, excess, obligations_of, parts_of}
 use Rattle.rh_oblig.proofs.Each.{part_for}
 use Rattle.rh_rule.specs.declared.rule.Rule.{Rule}

@@ -2,19 +2,22 @@
 use Rattle.std.proofs.Common.{◌≡◌, ℕ, zero, suc, ◌+◌, Bool, true, false, ◌||◌, ℤ, List, [], ◌∷◌, ◌++◌, Option, Some, None, map, slice_get, refl, ap, sym, subst, arith, ◌∙◌}
 use Rattle.std.specs.List.{flat_map, list_any}
 use Rattle.std.specs.Option.{option_and_then, option_map_or}
-use Rattle.std.proofs.lemmas.List.{map-append}
+use Rattle.std.proofs.lemmas.Grind.{flat_map-append}
+use Rattle.std.proofs.lemmas.List.{append-nil, map-append}
 use Rattle.rh_il.specs.Op.{op_eq}
 use Rattle.rh_il.specs.declared.value.Op.{Op as Operator}
 use Rattle.rh_il.proofs.Operators.{op_eq-refl}
 use Rattle.rh_term.specs.declared.clause.Clause.{Clause}
 use Rattle.rh_term.specs.declared.term.Term.{Term}
 use Rattle.rh_term.specs.declared.term.Term.TheVariants.{Num}
+use Rattle.rh_term.specs.declared.computed.Operation.{Operation}
+use Rattle.rh_term.specs.declared.computed.Triples.{Triples}
+use Rattle.rh_term.specs.Computed.{clause_with, operation_clauses}
 use Rattle.rh_term.specs.Place.{place_in}
-use Rattle.rh_axioms.specs.declared.computed.Computed.{Computed}
 use Rattle.rh_axioms.specs.declared.computed.Number.{Number}
 use Rattle.rh_axioms.specs.declared.instance.Instance.{Instance}
 use Rattle.rh_axioms.specs.declared.instance.Instance.TheVariants.{Three}
-use Rattle.rh_axioms.specs.Computed.{number_at, numbers_of, triple_of, triples_with, triples_of, triples_in, has_operator, HasTriples, clause_with, by_triples}
+use Rattle.rh_axioms.specs.Computed.{number_at, numbers_of, triple_of, triples_with, triples_of, operation_at, operations_of, has_operator, HasTriples}
 use Rattle.rh_axioms.specs.Instance.{differ, equal, clauses_of}
 use Rattle.rh_axioms.specs.Parts.{as_num, as_op}
 use Rattle.rh_axioms.specs.Rows.{each_from, each, of_some, where_is, result_of, computed, computed_with, computations}
@@ -61,35 +64,38 @@ told : (found : Option ℤ) (make : ℤ → Option Instance) → clauses_of (opt
 told None make = refl
 told (Some value) make = refl
 
-module _ (terms : List Term) (place : ℕ) (operation : Operator × ℕ × ℕ) where
+module _ (terms : List Term) (operation : Operation) where
+  abbrev parts : Operator × ℕ × ℕ
+  parts = (operation.op, operation.left, operation.right)
+
   one_triple : (left right : ℕ) (found : Option ℕ)
-      → map (clause_with place operation) (of_some found (λ outcome. record { left = left; right = right; outcome = outcome } ∷ []))
-      ≡ clauses_of (option_and_then (λ outcome. Some (Three (differ operation.1 left) (differ operation.2 right) (equal place outcome))) found)
+      → map (clause_with operation) (of_some found (λ outcome. record { left = left; right = right; outcome = outcome } ∷ []))
+      ≡ clauses_of (option_and_then (λ outcome. Some (Three (differ operation.left left) (differ operation.right right) (equal operation.place outcome))) found)
   one_triple left right None = refl
   one_triple left right (Some outcome) = refl
 
   -- the instances with a left number
   abbrev with_left : ℕ → ℤ → List Clause
-  with_left left c = each terms (λ right other. clauses_of (computed terms place operation left c right other))
+  with_left left c = each terms (λ right other. clauses_of (computed terms operation.place parts left c right other))
 
   -- the instances with two numbers
   abbrev with_both : ℕ → ℤ → ℕ → ℤ → List Clause
   with_both left c right d =
-      clauses_of (where_is terms (Num (result_of operation.0 c d)) (λ outcome.
-      Some (Three (differ operation.1 left) (differ operation.2 right) (equal place outcome))))
+      clauses_of (where_is terms (Num (result_of operation.op c d)) (λ outcome.
+      Some (Three (differ operation.left left) (differ operation.right right) (equal operation.place outcome))))
 
-  with_left_is : (left : Number) → map (clause_with place operation) (triples_with terms (numbers_of terms) operation.0 left) ≡ with_left left.place left.value
+  with_left_is : (left : Number) → map (clause_with operation) (triples_with terms (numbers_of terms) operation.op left) ≡ with_left left.place left.value
   with_left_is left =
-      map_flat (clause_with place operation) (triple_of terms operation.0 left) (λ (right : Number). with_both left.place left.value right.place right.value)
-      (λ right. one_triple left.place right.place (place_in terms (Num (result_of operation.0 left.value right.value)))) (numbers_of terms)
+      map_flat (clause_with operation) (triple_of terms operation.op left) (λ (right : Number). with_both left.place left.value right.place right.value)
+      (λ right. one_triple left.place right.place (place_in terms (Num (result_of operation.op left.value right.value)))) (numbers_of terms)
       ∙ sym (by_numbers terms 0 (with_both left.place left.value))
-      ∙ sym (each_same terms (λ right other. clauses_of (computed terms place operation left.place left.value right other))
+      ∙ sym (each_same terms (λ right other. clauses_of (computed terms operation.place parts left.place left.value right other))
       (λ right other. of_some (as_num other) (with_both left.place left.value right))
       (λ right other there. told (as_num other) _))
 
-  triples_are : map (clause_with place operation) (triples_of terms (numbers_of terms) operation.0) ≡ each terms (computed_with terms place operation)
+  triples_are : map (clause_with operation) (triples_of terms (numbers_of terms) operation.op) ≡ each terms (computed_with terms operation.place parts)
   triples_are =
-      map_flat (clause_with place operation) (triples_with terms (numbers_of terms) operation.0) (λ (left : Number). with_left left.place left.value)
+      map_flat (clause_with operation) (triples_with terms (numbers_of terms) operation.op) (λ (left : Number). with_left left.place left.value)
       with_left_is (numbers_of terms)
       ∙ sym (by_numbers terms 0 with_left)
 
@@ -111,18 +117,30 @@ used (first ∷ terms) zero term op e h =
     or_first (has_operator op first) (list_any (has_operator op) terms) (ap (has_operator op) same ∙ h)
 used (first ∷ terms) (suc i) term op e h = or_second (has_operator op first) (list_any (has_operator op) terms) (used terms i term op e h)
 
-term_is : (terms : List Term) (table : Computed) → HasTriples terms table → (place : ℕ) (term : Term) → slice_get terms place ≡ Some term
+term_is : (terms : List Term) (triples : Triples) → HasTriples terms triples → (place : ℕ) (term : Term) → slice_get terms place ≡ Some term
     → (found : Option (Operator × ℕ × ℕ)) → as_op term ≡ found
-    → of_some found (λ operation. map (clause_with place operation) (triples_in table operation.0))
-    ≡ of_some found (λ operation. each terms (computed_with terms place operation))
-term_is terms table has place term there None e = refl
-term_is terms table has place term there (Some operation) e =
-    ap (map (clause_with place operation))
-    (has operation.0 (used terms place term operation.0 there
-    (ap (λ found. option_map_or (λ parts. op_eq parts.0 operation.0) found false) e ∙ op_eq-refl operation.0)))
-    ∙ triples_are terms place operation
+    → flat_map (operation_clauses triples) (of_some found (λ parts. record { place = place; op = parts.0; left = parts.1; right = parts.2 } ∷ []))
+    ≡ of_some found (λ parts. each terms (computed_with terms place parts))
+term_is terms triples has place term there None e = refl
+term_is terms triples has place term there (Some parts) e =
+    let operation : Operation = record { place = place; op = parts.0; left = parts.1; right = parts.2 } in
+    append-nil (operation_clauses triples operation)
+    ∙ ap (map (clause_with operation))
+    (has parts.0 (used terms place term parts.0 there
+    (ap (λ found. option_map_or (λ parts'. op_eq parts'.0 parts.0) found false) e ∙ op_eq-refl parts.0)))
+    ∙ triples_are terms operation
+
+flat_each : {X Y : Type 0} (g : X → List Y) (f : ℕ → Term → List X) (terms : List Term) (at : ℕ)
+    → flat_map g (each_from at terms f) ≡ each_from at terms (λ place term. flat_map g (f place term))
+flat_each g f [] at = refl
+flat_each g f (term ∷ terms) at =
+    flat_map-append g (f at term) (each_from (at + 1) terms f)
+    ∙ ap (λ others. flat_map g (f at term) ++ others) (flat_each g f terms (at + 1))
 
 -- the instances by triples are all of them
-pub computations_are : (terms : List Term) (table : Computed) → HasTriples terms table → each terms (by_triples table) ≡ each terms (computations terms)
-computations_are terms table has =
-    each_same terms (by_triples table) (computations terms) (λ place term there. term_is terms table has place term there (as_op term) refl)
+pub computations_are : (terms : List Term) (triples : Triples) → HasTriples terms triples
+    → flat_map (operation_clauses triples) (operations_of terms) ≡ each terms (computations terms)
+computations_are terms triples has =
+    flat_each (operation_clauses triples) operation_at terms 0
+    ∙ each_same terms (λ place term. flat_map (operation_clauses triples) (operation_at place term)) (computations terms)
+    (λ place term there. term_is terms triples has place term there (as_op term) refl)

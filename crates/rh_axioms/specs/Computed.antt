@@ -1,20 +1,17 @@
 -- The instances of the computed operators, by the numbers of the list that an operator makes of two others.
-use Rattle.std.specs.Prelude.{◌≡◌, ℕ, Bool, false, List, [], ◌∷◌, IsTrue, map}
+use Rattle.std.specs.Prelude.{◌≡◌, ℕ, Bool, false, List, [], ◌∷◌, IsTrue}
 use Rattle.std.specs.List.{flat_map, list_any}
 use Rattle.std.specs.Option.{option_map_or}
 use Rattle.rh_il.specs.Op.{op_eq}
 use Rattle.rh_il.specs.declared.value.Op.{Op as Operator}
-use Rattle.rh_il.specs.declared.value.Op.TheVariants.{Add, Sub, Mul, Less, Equal}
-use Rattle.rh_term.specs.declared.clause.Clause.{Clause}
 use Rattle.rh_term.specs.declared.term.Term.{Term}
 use Rattle.rh_term.specs.declared.term.Term.TheVariants.{Num}
+use Rattle.rh_term.specs.declared.computed.Operation.{Operation}
+use Rattle.rh_term.specs.declared.computed.Triple.{Triple}
+use Rattle.rh_term.specs.declared.computed.Triples.{Triples}
+use Rattle.rh_term.specs.Computed.{triples_in}
 use Rattle.rh_term.specs.Place.{place_in}
-use Rattle.rh_axioms.specs.declared.computed.Computed.{Computed}
 use Rattle.rh_axioms.specs.declared.computed.Number.{Number}
-use Rattle.rh_axioms.specs.declared.computed.Triple.{Triple}
-use Rattle.rh_axioms.specs.declared.instance.Instance.{Instance}
-use Rattle.rh_axioms.specs.declared.instance.Instance.TheVariants.{Three}
-use Rattle.rh_axioms.specs.Instance.{differ, equal, clause_of}
 use Rattle.rh_axioms.specs.Parts.{as_num, as_op}
 use Rattle.rh_axioms.specs.Rows.{each, of_some, result_of}
 
@@ -42,26 +39,16 @@ triples_of terms numbers op = flat_map (triples_with terms numbers op) numbers
 abbrev pub has_operator : Operator → Term → Bool
 has_operator op term = option_map_or (λ parts. op_eq parts.0 op) (as_op term) false
 
-abbrev pub triples_in : Computed → Operator → List Triple
-triples_in computed Add = computed.add.items
-triples_in computed Sub = computed.sub.items
-triples_in computed Mul = computed.mul.items
-triples_in computed Less = computed.less.items
-triples_in computed Equal = computed.equal.items
-
 -- the triples of each operator that a term has
-abbrev pub HasTriples : List Term → Computed → Type 0
-HasTriples terms computed =
-    (op : Operator) → IsTrue (list_any (has_operator op) terms) → triples_in computed op ≡ triples_of terms (numbers_of terms) op
+abbrev pub HasTriples : List Term → Triples → Type 0
+HasTriples terms triples =
+    (op : Operator) → IsTrue (list_any (has_operator op) terms) → triples_in triples op ≡ triples_of terms (numbers_of terms) op
 
--- the instance for a term of an operator and a triple
-abbrev pub instance_with : ℕ → Operator × ℕ × ℕ → Triple → Instance
-instance_with place operation triple =
-    Three (differ operation.1 triple.left) (differ operation.2 triple.right) (equal place triple.outcome)
+-- the operation, where the term is one
+abbrev pub operation_at : ℕ → Term → List Operation
+operation_at place term =
+    of_some (as_op term) (λ parts. record { place = place; op = parts.0; left = parts.1; right = parts.2 } ∷ [])
 
-abbrev pub clause_with : ℕ → Operator × ℕ × ℕ → Triple → Clause
-clause_with place operation triple = clause_of (instance_with place operation triple)
-
--- the instances for a term
-abbrev pub by_triples : Computed → ℕ → Term → List Clause
-by_triples computed place term = of_some (as_op term) (λ operation. map (clause_with place operation) (triples_in computed operation.0))
+-- the operations of a list
+abbrev pub operations_of : List Term → List Operation
+operations_of terms = each terms operation_at

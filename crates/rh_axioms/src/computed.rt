@@ -2,13 +2,13 @@
 //! of them are looked up once for each operator, and not once for each term.
 ghost use Rattle.std.specs.Prelude.{◌≡◌, ◌++◌, IfOk, IsTrue};
 ghost use Rattle.std.specs.List.{list_any};
-ghost use Rattle.rh_axioms.specs.Computed.{has_operator, instance_with, numbers_of, triple_of, triples_in, triples_of, triples_with, HasTriples};
-ghost use Rattle.rh_axioms.specs.Rows.{result_of};
+ghost use Rattle.rh_axioms.specs.Computed.{has_operator, numbers_of, operations_of, triple_of, triples_of, triples_with, HasTriples};
+ghost use Rattle.rh_term.specs.Computed.{computed_clauses};
+ghost use Rattle.rh_axioms.specs.Rows.{computations, each, result_of};
 
-use crate::instance::{Instance, differ, equal};
 use crate::parts::{as_num, as_op};
 use rh_il::{Op, Value};
-use rh_term::{Term, Terms};
+use rh_term::{Computed, Operation, Term, Terms, Triple, Triples};
 use std::alloc::{AllocError, Global};
 
 /// A number of the list.
@@ -18,62 +18,47 @@ pub struct Number {
     pub value: i64,
 }
 
-/// The places of two numbers, and of what an operator makes of them.
-#[derive(Clone, Copy)]
-pub struct Triple {
-    pub left: u32,
-    pub right: u32,
-    pub outcome: u32,
+/// The clauses of the computed operators.
+pub fn computed(alloc: Global, terms: &Terms) -> Result<Computed, AllocError>
+    ensures { IfOk result (λ computed. computed_clauses computed ≡ each terms.now (computations terms.now)) }
+{
+    Ok(Computed {
+        operations: operations(alloc, terms)?,
+        triples: triples(alloc, terms)?,
+    })
+}
+
+/// The terms of an operator.
+fn operations(alloc: Global, terms: &Terms) -> Result<Vec<Operation>, AllocError>
+    ensures { IfOk result (λ found. found.items ≡ operations_of terms.now) }
+{
+    let mut found = Vec::new(alloc);
+    for (place, term) in terms.as_slice().iter().enumerate() {
+        if let Some((op, left, right)) = as_op(*term) {
+            found.push(Operation {
+                place: place as u32,
+                op,
+                left,
+                right,
+            })?;
+        }
+    }
+    Ok(found)
 }
 
 /// The triples of each operator that a term of the list has.
-#[derive(Drop)]
-pub struct Computed {
-    pub add: Vec<Triple>,
-    pub sub: Vec<Triple>,
-    pub mul: Vec<Triple>,
-    pub less: Vec<Triple>,
-    pub equal: Vec<Triple>,
-}
-
-impl Computed {
-    pub fn of(alloc: Global, terms: &Terms) -> Result<Self, AllocError>
-        ensures { IfOk result (HasTriples terms.now) }
-    {
-        let found = numbers(alloc, terms)?;
-        let numbers = found.as_slice();
-        Ok(Computed {
-            add: used_triples(alloc, terms, numbers, Op::Add)?,
-            sub: used_triples(alloc, terms, numbers, Op::Sub)?,
-            mul: used_triples(alloc, terms, numbers, Op::Mul)?,
-            less: used_triples(alloc, terms, numbers, Op::Less)?,
-            equal: used_triples(alloc, terms, numbers, Op::Equal)?,
-        })
-    }
-
-    pub fn triples(&self, op: Op) -> &[Triple]
-        ensures { result.now ≡ triples_in self.now op }
-    {
-        match op {
-            Op::Add => self.add.as_slice(),
-            Op::Sub => self.sub.as_slice(),
-            Op::Mul => self.mul.as_slice(),
-            Op::Less => self.less.as_slice(),
-            Op::Equal => self.equal.as_slice(),
-        }
-    }
-}
-
-/// The instance for a term of an operator and a triple.
-pub fn instance_with(place: u32, operation: (Op, u32, u32), triple: Triple) -> Instance
-    ensures { result ≡ instance_with place operation triple }
+fn triples(alloc: Global, terms: &Terms) -> Result<Triples, AllocError>
+    ensures { IfOk result (HasTriples terms.now) }
 {
-    let (_, first, second) = operation;
-    Instance::Three(
-        differ(first, triple.left),
-        differ(second, triple.right),
-        equal(place, triple.outcome),
-    )
+    let found = numbers(alloc, terms)?;
+    let numbers = found.as_slice();
+    Ok(Triples {
+        add: used_triples(alloc, terms, numbers, Op::Add)?,
+        sub: used_triples(alloc, terms, numbers, Op::Sub)?,
+        mul: used_triples(alloc, terms, numbers, Op::Mul)?,
+        less: used_triples(alloc, terms, numbers, Op::Less)?,
+        equal: used_triples(alloc, terms, numbers, Op::Equal)?,
+    })
 }
 
 fn numbers(alloc: Global, terms: &Terms) -> Result<Vec<Number>, AllocError>
@@ -100,7 +85,7 @@ fn used_triples(
     ensures { IfOk result (λ found. IsTrue (list_any (has_operator op) terms.now) → found.items ≡ triples_of terms.now numbers.now op) }
 {
     if is_used(terms.as_slice(), op) {
-        triples(alloc, terms, numbers, op)
+        triples_of(alloc, terms, numbers, op)
     } else {
         Ok(Vec::new(alloc))
     }
@@ -121,7 +106,7 @@ fn has_operator(op: Op, term: Term) -> bool
     }
 }
 
-fn triples(
+fn triples_of(
     alloc: Global,
     terms: &Terms,
     numbers: &[Number],

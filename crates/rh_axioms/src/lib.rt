@@ -12,6 +12,6 @@ mod standard_table;
 mod table;
 
 pub use laws::schemas_hold;
-pub use listing::instances;
+pub use listing::add_instances;
 pub use standard_table::standard;
 pub use table::{Axiom, Table};

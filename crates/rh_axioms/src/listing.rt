@@ -1,40 +1,39 @@
 //! The instances of a table over a list of terms.
-ghost use Rattle.std.specs.Prelude.{◌≡◌, ℕ, ◌++◌, ◌≤◌, List, map, length, IfOk, IsTrue};
+ghost use Rattle.std.specs.Prelude.{◌≡◌, ℕ, ◌++◌, ◌≤◌, List, length, IfOk, IsTrue};
 ghost use Rattle.rh_term.specs.declared.clause.Clause.{Clause};
 ghost use Rattle.rh_term.specs.declared.term.Term.{Term};
 ghost use Rattle.rh_term.specs.Clause.{are_within};
-ghost use Rattle.rh_axioms.specs.Computed.{by_triples, clause_with};
 ghost use Rattle.rh_axioms.specs.Instance.{clauses_of};
 ghost use Rattle.rh_axioms.specs.Parts.{as_sel};
 ghost use Rattle.rh_axioms.specs.Rows.{computations, each, instances_of, number_pairs, numbers_differ, of_some, reads_of_unheld, row, single, unheld_unread};
 
-use crate::computed::{Computed, Triple, instance_with};
+use crate::computed::computed;
 use crate::instance::{Instance, clause_of};
 use crate::kinds::{kind_of_address, kind_of_constant, kind_of_number, kind_of_operation};
 use crate::parts::{as_num, as_op, as_sel, as_una};
 use crate::rows::*;
 use crate::table::{Axiom, Table};
 use rh_il::Op;
-use rh_term::{Clause, Term, Terms};
+use rh_term::{Clauses, Term, Terms};
 use std::alloc::{AllocError, Global};
 
-/// The instances of each schema of the table over the list: schema by schema, and of one schema by the
-/// places of the terms that it names, from the first.
-pub fn instances<const N: usize>(
+/// Puts the instances of each schema of the table over the list at the end of the clauses: schema by
+/// schema, and of one schema by the places of the terms that it names, from the first.
+pub fn add_instances<const N: usize>(
     alloc: Global,
     table: &Table<N>,
     terms: &Terms,
-) -> Result<Vec<Clause>, AllocError>
+    clauses: &mut Clauses,
+) -> Result<(), AllocError>
     requires { N ≤ 64 }
-    ensures instances { IfOk result (λ clauses. clauses.items ≡ instances_of table.now.rows terms.now) }
-    ensures within { IfOk result (λ clauses. IsTrue (are_within (length terms.now) clauses.items)) }
+    ensures instances { IfOk result (λ _. clauses.new ≡ clauses.old ++ instances_of table.now.rows terms.now) }
+    ensures within { IfOk result (λ _. IsTrue (are_within (length terms.now) (instances_of table.now.rows terms.now))) }
 {
     let _list = terms.len();
-    let mut clauses = Vec::new(alloc);
     for schema in table.rows.iter() {
-        add_row(alloc, *schema, terms, &mut clauses)?;
+        add_row(alloc, *schema, terms, clauses)?;
     }
-    Ok(clauses)
+    Ok(())
 }
 
 // the arms of the schemas that name one term
@@ -77,8 +76,8 @@ fn single(schema: Axiom, terms: &Terms, place: u32, term: Term) -> Option<Instan
 }
 
 /// Puts the clause at the end, where there is an instance.
-fn put(instance: Option<Instance>, clauses: &mut Vec<Clause>) -> Result<(), AllocError>
-    ensures { IfOk result (λ _. clauses.new.items ≡ clauses.old.items ++ clauses_of instance) }
+fn put(instance: Option<Instance>, clauses: &mut Clauses) -> Result<(), AllocError>
+    ensures { IfOk result (λ _. clauses.new ≡ clauses.old ++ clauses_of instance) }
 {
     if let Some(instance) = instance {
         clauses.push(clause_of(instance))?;
@@ -90,9 +89,9 @@ fn add_row(
     alloc: Global,
     schema: Axiom,
     terms: &Terms,
-    clauses: &mut Vec<Clause>,
+    clauses: &mut Clauses,
 ) -> Result<(), AllocError>
-    ensures { IfOk result (λ _. clauses.new.items ≡ clauses.old.items ++ row terms.now schema) }
+    ensures { IfOk result (λ _. clauses.new ≡ clauses.old ++ row terms.now schema) }
 {
     match schema {
         Axiom::A8 => put(kinds_differ(terms), clauses),
@@ -114,18 +113,14 @@ trait PerTerm {
         terms: &Terms,
         place: u32,
         term: Term,
-        clauses: &mut Vec<Clause>,
+        clauses: &mut Clauses,
     ) -> Result<(), AllocError>
-        ensures { IfOk result (λ _. clauses.new.items ≡ clauses.old.items ++ clauses_for self.now terms.now place term) };
+        ensures { IfOk result (λ _. clauses.new ≡ clauses.old ++ clauses_for self.now terms.now place term) };
 }
 
 /// Puts the clauses for each term of the list at the end.
-fn add_each<P: PerTerm>(
-    given: &P,
-    terms: &Terms,
-    clauses: &mut Vec<Clause>,
-) -> Result<(), AllocError>
-    ensures { IfOk result (λ _. clauses.new.items ≡ clauses.old.items ++ each terms.now (P.clauses_for given.now terms.now)) }
+fn add_each<P: PerTerm>(given: &P, terms: &Terms, clauses: &mut Clauses) -> Result<(), AllocError>
+    ensures { IfOk result (λ _. clauses.new ≡ clauses.old ++ each terms.now (P.clauses_for given.now terms.now)) }
 {
     for (place, term) in terms.as_slice().iter().enumerate() {
         given.add(terms, place as u32, *term, clauses)?;
@@ -145,7 +140,7 @@ impl PerTerm for OneTerm {
         terms: &Terms,
         place: u32,
         term: Term,
-        clauses: &mut Vec<Clause>,
+        clauses: &mut Clauses,
     ) -> Result<(), AllocError> {
         put(single(self.0, terms, place, term), clauses)
     }
@@ -163,7 +158,7 @@ impl PerTerm for NumberPairs {
         terms: &Terms,
         place: u32,
         term: Term,
-        clauses: &mut Vec<Clause>,
+        clauses: &mut Clauses,
     ) -> Result<(), AllocError> {
         let Some(_number) = as_num(term) else {
             return Ok(());
@@ -184,54 +179,16 @@ impl PerTerm for OtherNumbers {
         _terms: &Terms,
         later: u32,
         other: Term,
-        clauses: &mut Vec<Clause>,
+        clauses: &mut Clauses,
     ) -> Result<(), AllocError> {
         put(numbers_differ(self.0, later, other), clauses)
     }
 }
 
-/// The computed operators.
-impl PerTerm for Computed {
-    ghost clauses_for = { λ given terms place term. by_triples given place term };
-
-    fn add(
-        &self,
-        _terms: &Terms,
-        place: u32,
-        term: Term,
-        clauses: &mut Vec<Clause>,
-    ) -> Result<(), AllocError> {
-        let Some(operation) = as_op(term) else {
-            return Ok(());
-        };
-        add_triples(place, operation, self.triples(operation.0), clauses)
-    }
-}
-
-fn add_triples(
-    place: u32,
-    operation: (Op, u32, u32),
-    triples: &[Triple],
-    clauses: &mut Vec<Clause>,
-) -> Result<(), AllocError>
-    ensures { IfOk result (λ _. clauses.new.items ≡ clauses.old.items ++ map (clause_with place operation) triples.now) }
+fn add_computations(alloc: Global, terms: &Terms, clauses: &mut Clauses) -> Result<(), AllocError>
+    ensures { IfOk result (λ _. clauses.new ≡ clauses.old ++ each terms.now (computations terms.now)) }
 {
-    for triple in triples {
-        let instance = instance_with(place, operation, *triple);
-        clauses.push(clause_of(instance))?;
-    }
-    Ok(())
-}
-
-fn add_computations(
-    alloc: Global,
-    terms: &Terms,
-    clauses: &mut Vec<Clause>,
-) -> Result<(), AllocError>
-    ensures { IfOk result (λ _. clauses.new.items ≡ clauses.old.items ++ each terms.now (computations terms.now)) }
-{
-    let computed = Computed::of(alloc, terms)?;
-    add_each(&computed, terms, clauses)
+    clauses.push_computed(alloc, computed(alloc, terms)?)
 }
 
 /// What no cell holds, and the reads.
@@ -246,7 +203,7 @@ impl PerTerm for UnheldReads {
         terms: &Terms,
         place: u32,
         term: Term,
-        clauses: &mut Vec<Clause>,
+        clauses: &mut Clauses,
     ) -> Result<(), AllocError> {
         let Some(unheld) = as_una(term) else {
             return Ok(());
@@ -270,7 +227,7 @@ impl PerTerm for ReadsOf {
         terms: &Terms,
         at: u32,
         other: Term,
-        clauses: &mut Vec<Clause>,
+        clauses: &mut Clauses,
     ) -> Result<(), AllocError> {
         let Some(read) = as_sel(other) else {
             return Ok(());

@@ -1,10 +1,10 @@
 //! An obligation made to be hard.
 ghost use Rattle.std.specs.Prelude.{◌≤◌, ◌<◌, ◌^◌, IsTrue, length};
+ghost use Rattle.rh_term.specs.Clauses.{all_clauses};
 ghost use Rattle.rh_refuter.specs.Choice.{AreNarrow};
 
 use rh_il::Op;
-use rh_list::Items;
-use rh_term::{Clause, Lit, Obligation, Term, Terms};
+use rh_term::{Clause, Clauses, Lit, Obligation, Part, Term, Terms};
 use std::alloc::{AllocError, Global};
 
 /// The most terms that the obligations of a rule have.
@@ -26,13 +26,14 @@ pub fn hard_obligation(alloc: Global, splits: u32) -> Result<Option<Obligation>,
     let height = (MOST_TERMS - (last + 1)) / 2;
     add_tower(&mut terms, 0, height)?;
     add_tower(&mut terms, last, height)?;
-    Ok(Obligation::of(terms, clauses(alloc, splits)?))
+    let clauses = Clauses::of(alloc, clauses(alloc, splits)?);
+    Ok(Obligation::of(terms, clauses))
 }
 
-fn clauses(alloc: Global, splits: u32) -> Result<Items<Clause>, AllocError>
+fn clauses(alloc: Global, splits: u32) -> Result<Vec<Clause>, AllocError>
     requires { splits ≤ 100 }
 {
-    let mut clauses = Items::new(alloc);
+    let mut clauses = Vec::new(alloc);
     for split in 0..splits {
         let x = 2 * split;
         let (y, next) = (x + 1, x + 2);
@@ -92,13 +93,23 @@ fn add_address(terms: &mut Terms, number: u32) -> Result<(), AllocError> {
     Ok(())
 }
 
-/// Whether the obligation is as small as the search asks.
+/// Whether the obligation is as small as the search asks. Its clauses are all made.
 pub fn is_small(obligation: &Obligation) -> bool
     ensures few { IsTrue result → length obligation.now.clauses < 2 ^ 32 }
     ensures narrow { IsTrue result → AreNarrow obligation.now.clauses }
 {
-    let clauses = obligation.clauses.as_slice();
-    clauses.len() <= u32::MAX as usize && are_narrow(clauses)
+    let (parts, last) = obligation.clauses.parts();
+    are_small(parts, last)
+}
+
+fn are_small(parts: &[Part], last: &[Clause]) -> bool
+    ensures few { IsTrue result → length (all_clauses parts.now last.now) < 2 ^ 32 }
+    ensures narrow { IsTrue result → AreNarrow (all_clauses parts.now last.now) }
+{
+    match parts {
+        [] => last.len() <= u32::MAX as usize && are_narrow(last),
+        _ => false,
+    }
 }
 
 fn are_narrow(clauses: &[Clause]) -> bool

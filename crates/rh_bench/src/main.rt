@@ -54,29 +54,61 @@ fn admit_in_turn(alloc: Global, file: &RuleFile) -> Result<Vec<Admission>, Oblig
     Ok(made)
 }
 
+/// Proves the rules of a file by one thread: whether no obligation has too many terms.
+fn prove_in_turn<R: Eprint + Clock>(rt: &R, alloc: Global, file: &RuleFile) -> io::Result<bool> {
+    let start = Instant::now(rt)?;
+    let in_turn = admit_in_turn(alloc, file);
+    let taken = start.elapsed(rt)?.as_micros();
+    let is_ruled = in_turn.is_ok();
+    eprintln!(rt; "  {taken} us to prove by one thread")?;
+    Ok(is_ruled)
+}
+
+/// Proves them by several threads: how many are admitted.
+fn prove_by_several<R: Threads + Eprint + Clock + Sync>(
+    rt: &R,
+    alloc: Global,
+    file: &RuleFile,
+) -> io::Result<Option<usize>> {
+    let start = Instant::now(rt)?;
+    let ruled = admit(rt, alloc, file);
+    let taken = start.elapsed(rt)?.as_micros();
+    eprintln!(rt; "  {taken} us to prove by several threads")?;
+    Ok(match ruled {
+        Ok(admissions) => Some(admitted(admissions.as_slice())),
+        Err(_) => None,
+    })
+}
+
 /// Proves the rules of a file, by one thread and by several.
 fn time_proofs<R: Threads + Print + Eprint + Clock + Sync>(
     rt: &R,
     alloc: Global,
     file: &RuleFile,
 ) -> io::Result<()> {
-    let start = Instant::now(rt)?;
-    let in_turn = admit_in_turn(alloc, file);
-    let taken = start.elapsed(rt)?.as_micros();
-    eprintln!(rt; "  {taken} us to prove by one thread")?;
-    let start = Instant::now(rt)?;
-    let ruled = admit(rt, alloc, file);
-    let taken = start.elapsed(rt)?.as_micros();
-    eprintln!(rt; "  {taken} us to prove by several threads")?;
-    match (in_turn, ruled) {
-        (Ok(_), Ok(admissions)) => println!(rt;
-            "{} rules, {} admitted",
-            admissions.len(),
-            admitted(admissions.as_slice())
-        )?,
+    let is_ruled = prove_in_turn(rt, alloc, file)?;
+    match prove_by_several(rt, alloc, file)? {
+        Some(count) if is_ruled => {
+            println!(rt; "{} rules, {count} admitted", file.rules().len())?;
+        }
         _ => println!(rt; "too many terms")?,
     }
     Ok(())
+}
+
+/// Reads a rule file.
+fn timed_rules<R: Eprint + Clock>(
+    rt: &R,
+    alloc: Global,
+    text: &[u8],
+) -> io::Result<Option<RuleFile>>
+    requires { length text.now ≤ 1048576 }
+{
+    let start = Instant::now(rt)?;
+    let read = read_rules(alloc, text).ok();
+    let reading = start.elapsed(rt)?.as_micros();
+    eprintln!(rt; "  {reading} us to read")?;
+    Ok(read)
 }
 
 /// Reads a rule file and proves its rules.
@@ -87,30 +119,36 @@ fn time_rules<R: Threads + Print + Eprint + Clock + Sync>(
 ) -> io::Result<()>
     requires { length text.now ≤ 1048576 }
 {
-    let start = Instant::now(rt)?;
-    let read = read_rules(alloc, text);
-    let reading = start.elapsed(rt)?.as_micros();
-    eprintln!(rt; "  {reading} us to read")?;
-    match read {
-        Ok(file) => time_proofs(rt, alloc, &file),
-        Err(_) => {
+    match timed_rules(rt, alloc, text)? {
+        Some(file) => time_proofs(rt, alloc, &file),
+        None => {
             println!(rt; "refused")?;
             Ok(())
         }
     }
 }
 
-/// Reads a program.
-fn time_program(rt: &HostRuntime, text: &[u8]) -> io::Result<()>
+/// Reads a program: how many procedures it has.
+fn timed_program(rt: &HostRuntime, text: &[u8]) -> io::Result<Option<u32>>
     requires { length text.now ≤ 1048576 }
 {
     let start = Instant::now(rt)?;
     let read = read_program(rt.alloc(), text);
     let reading = start.elapsed(rt)?.as_micros();
     eprintln!(rt; "  {reading} us to read")?;
-    match read {
-        Ok(program) => println!(rt; "{} procedures", program.count())?,
-        Err(_) => println!(rt; "refused")?,
+    Ok(match read {
+        Ok(program) => Some(program.count()),
+        Err(_) => None,
+    })
+}
+
+/// Reads a program.
+fn time_program(rt: &HostRuntime, text: &[u8]) -> io::Result<()>
+    requires { length text.now ≤ 1048576 }
+{
+    match timed_program(rt, text)? {
+        Some(count) => println!(rt; "{count} procedures")?,
+        None => println!(rt; "refused")?,
     }
     Ok(())
 }
@@ -143,7 +181,7 @@ fn time_hard(rt: &HostRuntime, splits: u32) -> io::Result<()> {
 }
 
 /// The number that a word spells, and 0 where it spells none.
-fn number(word: &Option<String>) -> u32 {
+fn number(word: Option<&str>) -> u32 {
     match word {
         Some(word) => word.parse().unwrap_or(0),
         None => 0,
@@ -156,19 +194,17 @@ fn main(rt: HostRuntime) -> io::Result<()> {
     let kind = words.next();
     let first = words.next();
     let second = words.next();
+    let (first, second) = (first.as_deref(), second.as_deref());
     match kind.as_deref() {
-        Some("solver") => time_solver(&rt, rt.alloc(), number(&first), number(&second)),
+        Some("solver") => time_solver(&rt, rt.alloc(), number(first), number(second)),
         Some("facts") => {
-            let rules = text_of(&rt, first.as_deref());
-            let program = text_of(&rt, second.as_deref());
+            let rules = text_of(&rt, first);
+            let program = text_of(&rt, second);
             time_facts(&rt, rt.alloc(), rules.as_slice(), program.as_slice())
         }
-        Some("rules") => {
-            let text = text_of(&rt, first.as_deref());
-            time_rules(&rt, rt.alloc(), text.as_slice())
-        }
-        Some("program") => time_program(&rt, text_of(&rt, first.as_deref()).as_slice()),
-        Some("hard") => time_hard(&rt, number(&first)),
+        Some("rules") => time_rules(&rt, rt.alloc(), text_of(&rt, first).as_slice()),
+        Some("program") => time_program(&rt, text_of(&rt, first).as_slice()),
+        Some("hard") => time_hard(&rt, number(first)),
         _ => Ok(()),
     }
 }

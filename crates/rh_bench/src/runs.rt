@@ -1,6 +1,6 @@
 //! Times of the solver on any system. What came of it goes to standard output, times and turns go to
 //! standard error.
-ghost use Rattle.std.specs.Prelude.{◌≡◌, IfOk, length, vec_len};
+ghost use Rattle.std.specs.Prelude.{◌≡◌, ◌<◌, ◌≤◌, IfOk, length, vec_len};
 
 use rh_engine::{Solved, solve, solve_hinted};
 use rh_outside::OpenGate;
@@ -43,6 +43,35 @@ pub fn by_one_thread<R: Eprint + Clock, S: System>(
     Ok(words)
 }
 
+/// How long workers took, and what they found.
+fn tell_run<R: Print + Eprint>(
+    rt: &R,
+    taken: u128,
+    workers: u32,
+    solved: &Solved,
+    wanted: &[u64],
+) -> io::Result<()> {
+    eprintln!(rt; "  {taken} us, {} turns, workers: {workers}", solved.turns)?;
+    tell_solved(rt, workers, solved, wanted)
+}
+
+/// So many workers that go over all words in each turn.
+fn time_workers<R: Threads + Print + Eprint + Clock + Sync, S: System + Sync>(
+    rt: &R,
+    alloc: Global,
+    system: &S,
+    workers: u32,
+    wanted: &[u64],
+) -> io::Result<()>
+    requires some { 0 < workers }
+    requires few { workers ≤ 16 }
+{
+    let start = Instant::now(rt)?;
+    let solved = solve(rt, alloc, system, workers, &OpenGate)?;
+    let taken = start.elapsed(rt)?.as_micros();
+    tell_run(rt, taken, workers, &solved, wanted)
+}
+
 /// Workers that go over all words in each turn.
 pub fn by_workers<R: Threads + Print + Eprint + Clock + Sync, S: System + Sync>(
     rt: &R,
@@ -53,13 +82,26 @@ pub fn by_workers<R: Threads + Print + Eprint + Clock + Sync, S: System + Sync>(
 ) -> io::Result<()> {
     eprintln!(rt; "{name}, solve")?;
     for workers in [1u32, 2, 4] {
-        let start = Instant::now(rt)?;
-        let solved = solve(rt, alloc, system, workers, &OpenGate)?;
-        let taken = start.elapsed(rt)?.as_micros();
-        eprintln!(rt; "  {taken} us, {} turns, workers: {workers}", solved.turns)?;
-        tell_solved(rt, workers, &solved, wanted)?;
+        time_workers(rt, alloc, system, workers, wanted)?;
     }
     Ok(())
+}
+
+/// So many workers that follow hints.
+fn time_hinted<R: Threads + Print + Eprint + Clock + Sync, S: Hints + Sync>(
+    rt: &R,
+    alloc: Global,
+    system: &S,
+    workers: u32,
+    wanted: &[u64],
+) -> io::Result<()>
+    requires some { 0 < workers }
+    requires few { workers ≤ 16 }
+{
+    let start = Instant::now(rt)?;
+    let solved = solve_hinted(rt, alloc, system, workers, &OpenGate)?;
+    let taken = start.elapsed(rt)?.as_micros();
+    tell_run(rt, taken, workers, &solved, wanted)
 }
 
 /// Workers that follow hints.
@@ -72,11 +114,7 @@ pub fn by_hints<R: Threads + Print + Eprint + Clock + Sync, S: Hints + Sync>(
 ) -> io::Result<()> {
     eprintln!(rt; "{name}, solve_hinted")?;
     for workers in [1u32, 2, 4] {
-        let start = Instant::now(rt)?;
-        let solved = solve_hinted(rt, alloc, system, workers, &OpenGate)?;
-        let taken = start.elapsed(rt)?.as_micros();
-        eprintln!(rt; "  {taken} us, {} turns, workers: {workers}", solved.turns)?;
-        tell_solved(rt, workers, &solved, wanted)?;
+        time_hinted(rt, alloc, system, workers, wanted)?;
     }
     Ok(())
 }

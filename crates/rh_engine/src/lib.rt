@@ -6,8 +6,6 @@ mod hinted;
 mod marks;
 mod shares;
 mod sweep;
-#[cfg(test)]
-mod tests;
 mod worker;
 
 pub use forked::{Solved, solve, solve_hinted};

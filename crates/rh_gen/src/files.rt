@@ -1,12 +1,12 @@
 //! The two files of a large input.
 ghost use Rattle.std.specs.Prelude.{◌≡◌, ◌≤◌, IfOk};
-ghost use Rattle.rh_il_text.specs.Text.{program_text};
+ghost use Rattle.rh_il_print.specs.Text.{program_text};
 ghost use Rattle.rh_gen.specs.Generated.{generated};
 ghost use Rattle.rh_gen.specs.Standard.{standard_rules};
 
 use crate::procedures::program;
 use crate::rules::standard_rules;
-use rh_il_text::print_program;
+use rh_il_print::print_program;
 use std::alloc::{AllocError, Global};
 
 /// The standard rules, and a made program of so many procedures and `main`.

@@ -1,46 +1,45 @@
 -- Derivations put together and taken apart.
 use Rattle.rh_grammar.specs.Tables.{rules_of}
 use Rattle.std.proofs.Common.{◌≡◌, ℕ, zero, suc, ◌≤◌, List, [], ◌∷◌, ◌++◌, Some, refl, subst, arith, append_assoc}
-use Rattle.std.specs.Prelude.{slice_get}
 use Rattle.rh_grammar.specs.declared.grammar.Symbol.{Symbol}
 use Rattle.rh_grammar.specs.declared.grammar.Symbol.TheVariants.{Token, Rule}
 use Rattle.rh_grammar.specs.declared.grammar.Grammar.{Grammar}
-use Rattle.rh_grammar.specs.Derivation.{Derives, done, token, expand}
+use Rattle.rh_grammar.specs.Derivation.{Rules, alternative, Derives, done, token, expand}
 use Rattle.rh_grammar.specs.Deterministic.{Evidence, AreKnown, AreLower, IsProductive, IsDeterministic}
 
 -- two derivations side by side
-pub append_derives : {rules : List (ℕ × List Symbol)} {α β : List Symbol} {qs rs v u : List ℕ} → Derives rules α qs v → Derives rules β rs u → Derives rules (α ++ β) (qs ++ rs) (v ++ u)
+pub append_derives : {rules : Rules} {α β : List Symbol} {qs rs v u : List ℕ} → Derives rules α qs v → Derives rules β rs u → Derives rules (α ++ β) (qs ++ rs) (v ++ u)
 append_derives done d' = d'
 append_derives (token d) d' = token (append_derives d d')
 append_derives {rules = rules} {β = β} {rs = rs} {u = u} (expand {symbols = α} {to = to} {ps = ps} {tokens = w} h d) d' =
     expand h (subst (λ s. Derives rules s (ps ++ rs) (w ++ u)) (append_assoc to α β) (append_derives d d'))
 
 -- what derives a token in front
-pub record Shifts (rules : List (ℕ × List Symbol)) (α : List Symbol) (qs tokens : List ℕ) (class : ℕ) : Type 0 where
+pub record Shifts (rules : Rules) (α : List Symbol) (qs tokens : List ℕ) (class : ℕ) : Type 0 where
   pub rest : List ℕ
   pub tokens_are : tokens ≡ class ∷ rest
   pub derives : Derives rules α qs rest
 
-pub shifts : {rules : List (ℕ × List Symbol)} {α : List Symbol} {qs tokens : List ℕ} {class : ℕ} → Derives rules (Token class ∷ α) qs tokens → Shifts rules α qs tokens class
+pub shifts : {rules : Rules} {α : List Symbol} {qs tokens : List ℕ} {class : ℕ} → Derives rules (Token class ∷ α) qs tokens → Shifts rules α qs tokens class
 shifts (token {tokens = rest} d) = record { rest = rest; tokens_are = refl; derives = d }
 
 -- how a nonterminal in front is replaced
-pub record Expands (rules : List (ℕ × List Symbol)) (rule : ℕ) (α : List Symbol) (tokens : List ℕ) : Type 0 where
+pub record Expands (rules : Rules) (rule : ℕ) (α : List Symbol) (tokens : List ℕ) : Type 0 where
   pub number : ℕ
   pub to : List Symbol
   pub others : List ℕ
-  pub production : slice_get rules number ≡ Some (rule, to)
+  pub production : alternative rules rule number ≡ Some to
   pub derives : Derives rules (to ++ α) others tokens
 
-pub expands : {rules : List (ℕ × List Symbol)} {rule : ℕ} {α : List Symbol} {qs tokens : List ℕ} → Derives rules (Rule rule ∷ α) qs tokens → Expands rules rule α tokens
+pub expands : {rules : Rules} {rule : ℕ} {α : List Symbol} {qs tokens : List ℕ} → Derives rules (Rule rule ∷ α) qs tokens → Expands rules rule α tokens
 expands (expand {p = p} {to = to} {ps = ps} h d) = record { number = p; to = to; others = ps; production = h; derives = d }
 
 -- no symbols derive no tokens
-pub nothing : {rules : List (ℕ × List Symbol)} {qs tokens : List ℕ} → Derives rules [] qs tokens → tokens ≡ []
+pub nothing : {rules : Rules} {qs tokens : List ℕ} → Derives rules [] qs tokens → tokens ≡ []
 nothing done = refl
 
 -- symbols derive something
-pub record Yields (rules : List (ℕ × List Symbol)) (α : List Symbol) : Type 0 where
+pub record Yields (rules : Rules) (α : List Symbol) : Type 0 where
   pub by : List ℕ
   pub tokens : List ℕ
   pub derives : Derives rules α by tokens

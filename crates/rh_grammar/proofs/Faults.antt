@@ -2,10 +2,9 @@
 use Rattle.std.proofs.Common.{◌≡◌, ℕ, ◌+◌, ◌<◌, ◌≤◌, ◌⊎◌, inl, inr, List, ◌++◌, length, take, drop, sym, ap, subst, ◌∙◌, arith, append_assoc, take-append-drop}
 use Rattle.std.proofs.lemmas.Bool.{cases_order}
 use Rattle.std.proofs.lemmas.List.{take-take}
-use Rattle.rh_grammar.specs.declared.grammar.Symbol.{Symbol}
-use Rattle.rh_grammar.specs.Derivation.{Derivable, BeginsDerivable, IsSyntaxFault}
+use Rattle.rh_grammar.specs.Derivation.{Rules, Derivable, BeginsDerivable, IsSyntaxFault}
 
-module _ (rules : List (ℕ × List Symbol)) (rule : ℕ) (tokens : List ℕ) where
+module _ (rules : Rules) (rule : ℕ) (tokens : List ℕ) where
   -- what stands before tokens that begin a derivable list begins one too
   begins_shorter : (m n : ℕ) → m ≤ n → BeginsDerivable rules rule (take n tokens) → BeginsDerivable rules rule (take m tokens)
   begins_shorter m n less begins =

@@ -35,17 +35,17 @@ begins_append g (Rule r ∷ α) β class h =
     (begins_append g α β class parts.1))
     (or_cases (is_some (choice g r class)) (is_some (empty g r) && begins g (α ++ β) class) h)
 
-some_pair : (x y : ℕ × List Symbol) → Some x ≡ Some y → x ≡ y
-some_pair x y h = cc
+some_same : (x y : List Symbol) → Some x ≡ Some y → x ≡ y
+some_same x y h = cc
 
 module _ (g : Grammar) (e : Evidence) (d : IsDeterministic g e) where
-  head_expand : (p rule : ℕ) (to α : List Symbol) (tokens : List ℕ) → production_at g p ≡ Some (rule, to) → HasHead g (to ++ α) tokens → HasHead g (Rule rule ∷ α) tokens
-  head_expand p rule to α [] h head =
+  head_expand : (rule p : ℕ) (to α : List Symbol) (tokens : List ℕ) → production_at g rule p ≡ Some to → HasHead g (to ++ α) tokens → HasHead g (Rule rule ∷ α) tokens
+  head_expand rule p to α [] h head =
       let parts = vanishes_append g to α head in
-      and_from _ _ (ap is_some ((d.decided p rule to h).vanishing parts.0)) parts.1
-  head_expand p rule to α (class ∷ tokens) h head =
-      ⊎_elim (λ here. or_left _ _ (ap is_some ((d.decided p rule to h).chosen class here)))
-      (λ later. or_right _ _ (and_from _ _ (ap is_some ((d.decided p rule to h).vanishing later.0)) later.1))
+      and_from _ _ (ap is_some ((d.decided rule p to h).vanishing parts.0)) parts.1
+  head_expand rule p to α (class ∷ tokens) h head =
+      ⊎_elim (λ here. or_left _ _ (ap is_some ((d.decided rule p to h).chosen class here)))
+      (λ later. or_right _ _ (and_from _ _ (ap is_some ((d.decided rule p to h).vanishing later.0)) later.1))
       (begins_append g to α class head)
 
   -- derived tokens have a front that the symbols may derive
@@ -53,7 +53,7 @@ module _ (g : Grammar) (e : Evidence) (d : IsDeterministic g e) where
   head_of done = refl
   head_of (token {class = class} rest) = eq-eqb class class refl
   head_of (expand {rule = rule} {p = p} {symbols = α} {to = to} {tokens = tokens} h rest) =
-      head_expand p rule to α tokens h (head_of rest)
+      head_expand rule p to α tokens h (head_of rest)
 
   context_expand : (rule : ℕ) (to α : List Symbol) → AreFollowed g e rule to → ((class : ℕ) → begins g α class ≡ true → e.follows rule class ≡ true) → IsContext g e α → IsContext g e (to ++ α)
   context_expand rule [] α followed after context = context
@@ -66,8 +66,8 @@ module _ (g : Grammar) (e : Evidence) (d : IsDeterministic g e) where
   )
 
   -- the context stays one when a nonterminal is replaced
-  pub context_step : (p rule : ℕ) (to α : List Symbol) → production_at g p ≡ Some (rule, to) → IsContext g e (Rule rule ∷ α) → IsContext g e (to ++ α)
-  context_step p rule to α h context = context_expand rule to α (d.decided p rule to h).followed context.0 context.1
+  pub context_step : (rule p : ℕ) (to α : List Symbol) → production_at g rule p ≡ Some to → IsContext g e (Rule rule ∷ α) → IsContext g e (to ++ α)
+  context_step rule p to α h context = context_expand rule to α (d.decided rule p to h).followed context.0 context.1
 
   chosen_first : (rule class p : ℕ) → choice g rule class ≡ Some p → chosen g rule class ≡ Some p
   unfolding chosen
@@ -80,7 +80,7 @@ module _ (g : Grammar) (e : Evidence) (d : IsDeterministic g e) where
   -- at a token the replacement is the one of the table
   pub predicted : (rule class : ℕ) (α : List Symbol) (tokens : List ℕ) → IsContext g e (Rule rule ∷ α) → (x : Expands (rules_of g) rule α (class ∷ tokens)) → chosen g rule class ≡ Some x.number
   predicted rule class α tokens context x =
-      let one = d.decided x.number rule x.to x.production in
+      let one = d.decided rule x.number x.to x.production in
       ⊎_elim (λ here. chosen_first rule class x.number (one.chosen class here))
       (λ later.
       let none = one.vanishing later.0 in
@@ -90,7 +90,7 @@ module _ (g : Grammar) (e : Evidence) (d : IsDeterministic g e) where
   -- at the end it is the one of no symbols
   pub predicted_end : (rule : ℕ) (α : List Symbol) → (x : Expands (rules_of g) rule α []) → empty g rule ≡ Some x.number
   predicted_end rule α x =
-      (d.decided x.number rule x.to x.production).vanishing (vanishes_append g x.to α (head_of x.derives)).0
+      (d.decided rule x.number x.to x.production).vanishing (vanishes_append g x.to α (head_of x.derives)).0
 
   load_append : (to α : List Symbol) → vanishes g to ≡ false → load g (to ++ α) ≡ load g to
   load_append [] α h = absurd (false≢true (sym h))
@@ -100,13 +100,13 @@ module _ (g : Grammar) (e : Evidence) (d : IsDeterministic g e) where
       [ true ↦ λ rest. ap (λ n. weight g m + n) (load_append to α rest) | false ↦ λ _. refl ] h
 
   -- a replacement makes the load lighter
-  pub load_step : (p rule : ℕ) (to α : List Symbol) → production_at g p ≡ Some (rule, to) → load g (to ++ α) < load g (Rule rule ∷ α)
-  load_step p rule to α h =
-      let one = d.decided p rule to h in
+  pub load_step : (rule p : ℕ) (to α : List Symbol) → production_at g rule p ≡ Some to → load g (to ++ α) < load g (Rule rule ∷ α)
+  load_step rule p to α h =
+      let one = d.decided rule p to h in
       ⊎_elim
       (λ gone.
       let none = one.vanishing gone in
-      let is_empty : to ≡ [] = ap (λ (q : ℕ × List Symbol). q.1) (some_pair (rule, to) (rule, []) (sym h ∙ d.empties rule p none)) in
+      let is_empty : to ≡ [] = some_same to [] (sym h ∙ d.empties rule p none) in
       let same = ap (λ t. load g (t ++ α)) is_empty in
       let positive = one.lighter in
       let whole : load g (Rule rule ∷ α) ≡ weight g rule + load g α = rw none refl in

@@ -3,5 +3,4 @@ pub mod Heads
 pub mod Steps
 pub mod Stacks
 pub mod Passing
-pub mod Inversion
 pub mod Faults

@@ -1,20 +1,22 @@
 -- A grammar that passes the test is decided by one token, and each nonterminal derives something.
-use Rattle.std.proofs.Common.{◌≡◌, ℕ, zero, suc, ◌+◌, ◌<◌, Bool, true, false, ◌&&◌, eqb, List, [], ◌∷◌, length, map, Option, Some, None, is_some, refl, sym, ap, ◌∙◌, subst, arith, ⊎_elim}
-use Rattle.std.proofs.lemmas.Option.{same_Some}
-use Rattle.std.proofs.lemmas.Bool.{and_parts, or_cases, false≢true, ltb-true, leb-true, eqb-true, cases_lt}
-use Rattle.std.specs.Prelude.{slice_get, slice_index, is_none, nat_lt, nat_le}
+use Rattle.std.proofs.Common.{◌≡◌, ℕ, zero, suc, ◌+◌, ◌<◌, Bool, true, false, cond, ◌&&◌, eqb, List, [], ◌∷◌, length, Option, Some, None, is_some, refl, sym, ap, ◌∙◌, subst, arith, ⊎_elim}
+use Rattle.std.proofs.lemmas.Option.{same_Some, slice_get-map, slice_get_within, get_or_from_slice_get}
+use Rattle.std.proofs.lemmas.Bool.{and_parts, or_cases, false≢true, ltb-true, eqb-true, cases_lt}
+use Rattle.std.proofs.lemmas.List.Quantifiers.{position-Some}
+use Rattle.std.specs.Prelude.{slice_get, slice_index, is_none, nat_lt, unwrap_or}
 use Rattle.std.specs.Option.{option_and_then, option_map}
-use Rattle.std.specs.List.{list_all}
-use Rattle.std.specs.Borrow.{Bor}
-use Rattle.rh_list.proofs.AtPlace.{passes_at}
+use Rattle.std.specs.List.{list_all, list_any, position}
+use Rattle.rh_list.proofs.AtPlace.{passes_at, read_at}
 use Rattle.rh_grammar.specs.declared.grammar.Symbol.{Symbol}
 use Rattle.rh_grammar.specs.declared.grammar.Symbol.TheVariants.{Token, Rule}
-use Rattle.rh_grammar.specs.declared.grammar.Production.{Production}
+use Rattle.rh_grammar.specs.declared.grammar.Alternative.{Alternative}
+use Rattle.rh_grammar.specs.declared.grammar.Nonterminal.{Nonterminal}
 use Rattle.rh_grammar.specs.declared.grammar.Grammar.{Grammar}
-use Rattle.rh_grammar.specs.Tables.{choice, empty, weight, production_at}
+use Rattle.rh_grammar.specs.Derivation.{alternatives}
+use Rattle.rh_grammar.specs.Tables.{is_taken_at, is_empty, byte, choice, empty, weight, sides_of, rules_of, production_at}
 use Rattle.rh_grammar.specs.Deterministic.{vanishes, begins, load, AreKnown, AreLower, AreFollowed, IsDecided, IsProductionOf, IsProductive, IsDeterministic}
 use Rattle.rh_grammar.specs.Parsing.{IsParsable}
-use Rattle.rh_grammar.specs.Test.{Tables, follows_in, evidence_of, all_below, implies, is_number, symbols_known, symbols_lower, symbols_followed, production_passes, productions_pass, is_of, is_empty_of, entry_passes, empty_passes, lower_passes, is_deterministic}
+use Rattle.rh_grammar.specs.Test.{Tables, follows_in, evidence_of, all_below, implies, is_number, symbols_known, symbols_lower, symbols_followed, production_passes, productions_pass, empty_passes, lower_passes, classes_known, nonterminal_known, is_deterministic}
 
 below : (n : ℕ) (test : ℕ → Bool) (k : ℕ) → all_below n test ≡ true → k < n → test k ≡ true
 below zero test k h lt = absurd (omega arith)
@@ -36,53 +38,101 @@ none_is : (o : Option ℕ) → is_none o ≡ true → o ≡ None
 none_is None h = refl
 none_is (Some n) h = absurd (false≢true h)
 
-slice_get-map : {X Y : Type 0} (f : X → Y) (xs : List X) (i : ℕ) → slice_get (map f xs) i ≡ option_map f (slice_get xs i)
-slice_get-map f [] i = refl
-slice_get-map f (x ∷ xs) zero = refl
-slice_get-map f (x ∷ xs) (suc i) = slice_get-map f xs i
-
--- a row is read only below its length
-read_below : {X : Type 0} (xs : List X) (i : ℕ) (x : X) → slice_get xs i ≡ Some x → i < length xs
-read_below [] i x e = let gone : None ≡ Some x = e in absurd cc
-read_below (y ∷ ys) zero x e = omega arith
-read_below (y ∷ ys) (suc i) x e = let rest = read_below ys i x e in omega arith
-
 is_some_of : (o : Option ℕ) → is_some o ≡ true → (p : ℕ) × (o ≡ Some p)
 is_some_of None h = absurd (false≢true h)
 is_some_of (Some p) h = (p, refl)
 
-cell_within : (xs : List (Option ℕ)) (class p : ℕ) (o : Option (Option ℕ)) → slice_get xs class ≡ o → option_and_then (λ (q : Option ℕ). q) o ≡ Some p → class < length xs
-cell_within xs class p None e h = let gone : None ≡ Some p = h in absurd cc
-cell_within xs class p (Some q) e h = read_below xs class q e
+-- the first item that passes a test
+pub record Found {X : Type 0} (test : X → Bool) (xs : List X) (p : ℕ) : Type 0 where
+  pub item : X
+  pub there : slice_get xs p ≡ Some item
+  pub passes : test item ≡ true
 
--- an entry of the table is read only within it
-choice_in : (t : Tables) (rows : List (Bor (List (Option ℕ)))) (rule class p : ℕ) (o : Option (Bor (List (Option ℕ)))) → list_all (λ (row : Bor (List (Option ℕ))). nat_le (length row.now) t.classes) rows ≡ true → slice_get rows rule ≡ o → option_and_then (λ (row : Bor (List (Option ℕ))). option_and_then (λ (q : Option ℕ). q) (slice_get row.now class)) o ≡ Some p → (rule < length rows) × (class < t.classes)
-choice_in t rows rule class p None short e h = let gone : None ≡ Some p = h in absurd cc
-choice_in t rows rule class p (Some row) short e h =
-    let low = leb-true _ _ (passes_at (λ (r : Bor (List (Option ℕ))). nat_le (length r.now) t.classes) rows rule row short e) in
-    let at = cell_within row.now class p (slice_get row.now class) refl h in
-    (read_below rows rule row e, omega arith)
+found : {X : Type 0} (test : X → Bool) (xs : List X) (p : ℕ) → position test xs ≡ Some p → Found test xs p
+found test [] p at = let gone : None ≡ Some p = at in absurd cc
+found test (x ∷ xs) p at =
+    let first = position-Some test (x ∷ xs) p x at in
+    let read = read_at (x ∷ xs) p first.0 in
+    record { item = read.0; there = read.1; passes = ap test (sym (get_or_from_slice_get (x ∷ xs) p read.0 x read.1)) ∙ first.1 }
+
+none_some : (p : ℕ) → ◌≡◌ {A = Option ℕ} None (Some p) → ⊥
+none_some p e = cc
+
+byte_is : (o : Option ℕ) (p : ℕ) → byte o ≡ Some p → o ≡ Some p
+byte_is None p h = let gone : None ≡ Some p = h in absurd cc
+byte_is (Some n) p h = elim (nat_lt n 256) as (λ b. cond b (Some n) None ≡ Some p → Some n ≡ Some p) [ true ↦ λ e. e | false ↦ λ e. absurd (none_some p e) ] h
+
+-- the first alternative that passes a test, of a nonterminal
+pub record Taken (g : Grammar) (test : Alternative → Bool) (rule p : ℕ) : Type 0 where
+  pub nonterminal : Nonterminal
+  pub stands : slice_get g.nonterminals.now rule ≡ Some nonterminal
+  pub alternative : Found test nonterminal.alternatives.now p
+
+taken_of : (g : Grammar) (test : Alternative → Bool) (rule p : ℕ) (o : Option Nonterminal) → slice_get g.nonterminals.now rule ≡ o → option_and_then (λ (n : Nonterminal). byte (position test n.alternatives.now)) o ≡ Some p → Taken g test rule p
+taken_of g test rule p None stands h = let gone : None ≡ Some p = h in absurd cc
+taken_of g test rule p (Some n) stands h =
+    record { nonterminal = n; stands = stands; alternative = found test n.alternatives.now p (byte_is (position test n.alternatives.now) p h) }
+
+chosen_taken : (g : Grammar) (rule class p : ℕ) → choice g rule class ≡ Some p → Taken g (is_taken_at class) rule p
+unfolding choice
+chosen_taken g rule class p h = taken_of g (is_taken_at class) rule p (slice_get g.nonterminals.now rule) refl h
+
+empty_taken : (g : Grammar) (rule p : ℕ) → empty g rule ≡ Some p → Taken g is_empty rule p
+unfolding empty
+empty_taken g rule p h = taken_of g is_empty rule p (slice_get g.nonterminals.now rule) refl h
+
+-- the alternatives of a nonterminal that stands there
+sides_are : (g : Grammar) (rule : ℕ) (n : Nonterminal) → slice_get g.nonterminals.now rule ≡ Some n → alternatives (rules_of g) rule ≡ sides_of n
+sides_are g rule n stands =
+    ap (λ (o : Option (List (List Symbol))). unwrap_or o []) (slice_get-map sides_of g.nonterminals.now rule ∙ ap (option_map sides_of) stands)
+
+taken_production : (g : Grammar) (test : Alternative → Bool) (rule p : ℕ) → (t : Taken g test rule p) → production_at g rule p ≡ Some t.alternative.item.to.now
+taken_production g test rule p t =
+    let to = λ (a : Alternative). a.to.now in
+    ap (λ (sides : List (List Symbol)). slice_get sides p) (sides_are g rule t.nonterminal t.stands)
+    ∙ slice_get-map to t.nonterminal.alternatives.now p ∙ ap (option_map to) t.alternative.there
+
+-- a class in a list whose classes are all below the bound
+class_below : (class bound : ℕ) (at : List ℕ) → list_any (λ (c : ℕ). eqb c class) at ≡ true → list_all (λ (c : ℕ). nat_lt c bound) at ≡ true → class < bound
+class_below class bound [] is all = absurd (false≢true is)
+class_below class bound (c ∷ cs) is all =
+    let both = and_parts (nat_lt c bound) (list_all (λ (d : ℕ). nat_lt d bound) cs) all in
+    ⊎_elim (λ here. let same = eqb-true c class here in let low = ltb-true c bound both.0 in omega arith)
+    (λ later. class_below class bound cs later both.1)
+    (or_cases (eqb c class) (list_any (λ (d : ℕ). eqb d class) cs) is)
+
+no_symbols : (xs : List Symbol) → eqb (length xs) 0 ≡ true → xs ≡ []
+no_symbols [] h = refl
+no_symbols (x ∷ xs) h = let none : length (x ∷ xs) ≡ 0 = eqb-true (length (x ∷ xs)) 0 h in absurd (omega arith)
+
+-- a nonterminal with an alternative stands in the grammar
+has_alternatives : (g : Grammar) (rule p : ℕ) (to : List Symbol) (o : Option Nonterminal) → slice_get g.nonterminals.now rule ≡ o → production_at g rule p ≡ Some to → rule < length g.nonterminals.now
+has_alternatives g rule p to (Some n) stands h = slice_get_within g.nonterminals.now rule n stands
+has_alternatives g rule p to None stands h =
+    let none : alternatives (rules_of g) rule ≡ [] = ap (λ (o : Option (List (List Symbol))). unwrap_or o []) (slice_get-map sides_of g.nonterminals.now rule ∙ ap (option_map sides_of) stands) in
+    let gone : None ≡ Some to = ap (λ (sides : List (List Symbol)). slice_get sides p) (sym none) ∙ h in absurd cc
 
 -- the parts of the test
 pub record Parts (g : Grammar) (t : Tables) : Type 0 where
-  pub productions : productions_pass g t 0 g.productions.now ≡ true
-  pub entries : all_below (length g.choices.now) (λ rule. all_below t.classes (λ class. entry_passes g rule (choice g rule class))) ≡ true
-  pub short : list_all (λ (row : Bor (List (Option ℕ))). nat_le (length row.now) t.classes) g.choices.now ≡ true
-  pub empties : all_below (length g.empties.now) (λ rule. empty_passes g t rule (empty g rule)) ≡ true
-  pub lower : all_below (length t.witnesses) (λ rule. lower_passes t rule (production_at g (slice_index t.witnesses rule))) ≡ true
+  pub productions : all_below (length g.nonterminals.now) (λ rule. productions_pass g t rule 0 (alternatives (rules_of g) rule)) ≡ true
+  pub known : list_all (nonterminal_known t) g.nonterminals.now ≡ true
+  pub empties : all_below (length g.nonterminals.now) (λ rule. empty_passes g t rule (empty g rule)) ≡ true
+  pub lower : all_below (length t.witnesses) (λ rule. lower_passes t rule (production_at g rule (slice_index t.witnesses rule))) ≡ true
 
 parts_of : (g : Grammar) (t : Tables) → is_deterministic g t ≡ true → Parts g t
 parts_of g t pass =
     let a = and_parts _ _ pass in
     let b = and_parts _ _ a.1 in
     let c = and_parts _ _ b.1 in
-    let d = and_parts _ _ c.1 in
-    record { productions = a.0; entries = b.0; short = c.0; empties = d.0; lower = d.1 }
+    record { productions = a.0; known = b.0; empties = c.0; lower = c.1 }
 
 module _ (g : Grammar) (t : Tables) (parts : Parts g t) where
-  choice_within : (rule class p : ℕ) → choice g rule class ≡ Some p → (rule < length g.choices.now) × (class < t.classes)
-  unfolding choice
-  choice_within rule class p h = choice_in t g.choices.now rule class p (slice_get g.choices.now rule) parts.short refl h
+  choice_within : (rule class p : ℕ) → choice g rule class ≡ Some p → class < t.classes
+  choice_within rule class p h =
+      let taken = chosen_taken g rule class p h in
+      let known = passes_at (nonterminal_known t) g.nonterminals.now rule taken.nonterminal parts.known taken.stands in
+      let one = passes_at (classes_known t) taken.nonterminal.alternatives.now p taken.alternative.item known taken.alternative.there in
+      class_below class t.classes taken.alternative.item.at.now taken.alternative.passes one
 
   follows_within : (rule class : ℕ) → follows_in t rule class ≡ true → class < t.classes
   follows_within rule class h = ltb-true class t.classes (and_parts (nat_lt class t.classes) _ h).0
@@ -93,7 +143,7 @@ module _ (g : Grammar) (t : Tables) (parts : Parts g t) where
       let same = eqb-true other class h in
       let low = ltb-true other t.classes (and_parts (nat_lt other t.classes) (symbols_known t α) known).0 in omega arith
   begins_within (Rule rule ∷ α) class known h =
-      ⊎_elim (λ here. let some = is_some_of (choice g rule class) here in (choice_within rule class some.0 some.1).1)
+      ⊎_elim (λ here. let some = is_some_of (choice g rule class) here in choice_within rule class some.0 some.1)
       (λ later. begins_within α class (and_parts (nat_lt rule (length t.witnesses)) (symbols_known t α) known).1 (and_parts (is_some (empty g rule)) (begins g α class) later).1)
       (or_cases (is_some (choice g rule class)) (is_some (empty g rule) && begins g α class) h)
 
@@ -126,8 +176,8 @@ module _ (g : Grammar) (t : Tables) (parts : Parts g t) where
         followed_from of α rest_known b.1,
       )
 
-  decided_from : (p rule : ℕ) (to : List Symbol) → production_passes g t p rule to ≡ true → IsDecided g (evidence_of t) p rule to
-  decided_from p rule to h =
+  decided_from : (rule p : ℕ) (to : List Symbol) → production_passes g t rule p to ≡ true → IsDecided g (evidence_of t) rule p to
+  decided_from rule p to h =
       let chooses = λ (class : ℕ). implies (begins g to class) (is_number (choice g rule class) p) in
       let a = and_parts (all_below t.classes chooses) (implies (vanishes g to) (is_number (empty g rule) p) && (symbols_followed g t rule to && (nat_lt (load g to) (weight g rule) && symbols_known t to))) h in
       let b = and_parts (implies (vanishes g to) (is_number (empty g rule) p)) (symbols_followed g t rule to && (nat_lt (load g to) (weight g rule) && symbols_known t to)) a.1 in
@@ -141,76 +191,44 @@ module _ (g : Grammar) (t : Tables) (parts : Parts g t) where
         known = known_from to d.1;
       }
 
-  production_read : (p : ℕ) (ps : List Production) (i : ℕ) (one : Production) → productions_pass g t p ps ≡ true → slice_get ps i ≡ Some one → production_passes g t (p + i) one.of one.to.now ≡ true
-  production_read p [] i one h read = let gone : None ≡ Some one = read in absurd cc
-  production_read p (q ∷ ps) zero one h read =
-      let first = (and_parts (production_passes g t p q.of q.to.now) (productions_pass g t (suc p) ps) h).0 in
+  production_read : (rule p : ℕ) (sides : List (List Symbol)) (i : ℕ) (to : List Symbol) → productions_pass g t rule p sides ≡ true → slice_get sides i ≡ Some to → production_passes g t rule (p + i) to ≡ true
+  production_read rule p [] i to h read = let gone : None ≡ Some to = read in absurd cc
+  production_read rule p (side ∷ sides) zero to h read =
+      let first = (and_parts (production_passes g t rule p side) (productions_pass g t rule (suc p) sides) h).0 in
       let here : p ≡ p + 0 = omega arith in
-      subst (λ n. production_passes g t n one.of one.to.now ≡ true) here (subst (λ r. production_passes g t p r.of r.to.now ≡ true) (same_Some q one read) first)
-  production_read p (q ∷ ps) (suc i) one h read =
-      let rest = (and_parts (production_passes g t p q.of q.to.now) (productions_pass g t (suc p) ps) h).1 in
+      subst (λ n. production_passes g t rule n to ≡ true) here (subst (λ r. production_passes g t rule p r ≡ true) (same_Some side to read) first)
+  production_read rule p (side ∷ sides) (suc i) to h read =
+      let rest = (and_parts (production_passes g t rule p side) (productions_pass g t rule (suc p) sides) h).1 in
       let here : suc p + i ≡ p + suc i = omega arith in
-      subst (λ n. production_passes g t n one.of one.to.now ≡ true) here (production_read (suc p) ps i one rest read)
+      subst (λ n. production_passes g t rule n to ≡ true) here (production_read rule (suc p) sides i to rest read)
 
-  decided_read : (p rule : ℕ) (to : List Symbol) (o : Option Production) → slice_get g.productions.now p ≡ o → option_map {U = ℕ × List Symbol} (λ (q : Production). (q.of, q.to.now)) o ≡ Some (rule, to) → IsDecided g (evidence_of t) p rule to
-  decided_read p rule to None read h = let gone : ◌≡◌ {A = Option (ℕ × List Symbol)} None (Some (rule, to)) = h in absurd cc
-  decided_read p rule to (Some one) read h =
-      let pair = same_Some {A = ℕ × List Symbol} (one.of, one.to.now) (rule, to) h in
+  decided : (rule p : ℕ) (to : List Symbol) → production_at g rule p ≡ Some to → IsDecided g (evidence_of t) rule p to
+  decided rule p to h =
+      let within = has_alternatives g rule p to (slice_get g.nonterminals.now rule) refl h in
+      let row = below _ _ rule parts.productions within in
       let here : 0 + p ≡ p = omega arith in
-      let passes = subst (λ n. production_passes g t n one.of one.to.now ≡ true) here (production_read 0 g.productions.now p one parts.productions read) in
-      subst (λ (q : ℕ × List Symbol). IsDecided g (evidence_of t) p q.0 q.1) pair (decided_from p one.of one.to.now passes)
-
-  decided : (p rule : ℕ) (to : List Symbol) → production_at g p ≡ Some (rule, to) → IsDecided g (evidence_of t) p rule to
-  decided p rule to h =
-      decided_read p rule to (slice_get g.productions.now p) refl (sym (slice_get-map (λ (q : Production). (q.of, q.to.now)) g.productions.now p) ∙ h)
-
-  of_from : (p rule : ℕ) (o : Option (ℕ × List Symbol)) → production_at g p ≡ o → is_of o rule ≡ true → IsProductionOf g rule p
-  of_from p rule None h is = absurd (false≢true is)
-  of_from p rule (Some q) h is =
-      (q.1, h ∙ ap (λ n. Some (n, q.1)) (eqb-true q.0 rule is))
-
-  entry_of : (rule class p : ℕ) (o : Option ℕ) → choice g rule class ≡ o → entry_passes g rule o ≡ true → o ≡ Some p → IsProductionOf g rule p
-  entry_of rule class p None h passes some = let gone : None ≡ Some p = some in absurd cc
-  entry_of rule class p (Some q) h passes some = subst (IsProductionOf g rule) (same_Some q p some) (of_from q rule (production_at g q) refl passes)
+      decided_from rule p to (subst (λ n. production_passes g t rule n to ≡ true) here (production_read rule 0 (alternatives (rules_of g) rule) p to row h))
 
   choices_from : (rule class p : ℕ) → choice g rule class ≡ Some p → IsProductionOf g rule p
   choices_from rule class p h =
-      let within = choice_within rule class p h in
-      let row = below _ _ rule parts.entries within.0 in
-      let entry = below _ _ class row within.1 in
-      entry_of rule class p (choice g rule class) refl entry h
+      let taken = chosen_taken g rule class p h in (taken.alternative.item.to.now, taken_production g (is_taken_at class) rule p taken)
 
-  empty_read : (rule p : ℕ) (o : Option (Option ℕ)) → slice_get g.empties.now rule ≡ o → option_and_then (λ (q : Option ℕ). q) o ≡ Some p → rule < length g.empties.now
-  empty_read rule p None read h = let gone : None ≡ Some p = h in absurd cc
-  empty_read rule p (Some q) read h = read_below g.empties.now rule q read
-
-  empty_within : (rule p : ℕ) → empty g rule ≡ Some p → rule < length g.empties.now
-  unfolding empty
-  empty_within rule p h = empty_read rule p (slice_get g.empties.now rule) refl h
-
-  empty_at : (rule p : ℕ) → empty g rule ≡ Some p → empty_passes g t rule (Some p) ≡ true
-  empty_at rule p h =
-      subst (λ o. empty_passes g t rule o ≡ true) h (below _ _ rule parts.empties (empty_within rule p h))
-
-  empty_of : (p rule : ℕ) (o : Option (ℕ × List Symbol)) → production_at g p ≡ o → is_empty_of o rule ≡ true → production_at g p ≡ Some (rule, [])
-  empty_of p rule None h is = absurd (false≢true is)
-  empty_of p rule (Some (of, [])) h is = h ∙ ap (λ n. Some (n, [])) (eqb-true of rule is)
-  empty_of p rule (Some (of, x ∷ xs)) h is = absurd (false≢true is)
-
-  empties_from : (rule p : ℕ) → empty g rule ≡ Some p → production_at g p ≡ Some (rule, [])
-  empties_from rule p h = empty_of p rule (production_at g p) refl (and_parts (is_empty_of (production_at g p) rule) _ (empty_at rule p h)).0
+  empties_from : (rule p : ℕ) → empty g rule ≡ Some p → production_at g rule p ≡ Some []
+  empties_from rule p h =
+      let taken = empty_taken g rule p h in
+      taken_production g is_empty rule p taken ∙ ap (λ (l : List Symbol). Some l) (no_symbols taken.alternative.item.to.now taken.alternative.passes)
 
   apart_from : (rule class p : ℕ) → empty g rule ≡ Some p → follows_in t rule class ≡ true → choice g rule class ≡ None
   apart_from rule class p h follow =
+      let taken = empty_taken g rule p h in
+      let within = slice_get_within g.nonterminals.now rule taken.nonterminal taken.stands in
       let tells = λ (c : ℕ). implies (follows_in t rule c) (is_none (choice g rule c)) in
-      let all = (and_parts (is_empty_of (production_at g p) rule) (all_below t.classes tells) (empty_at rule p h)).1 in
+      let all = subst (λ o. empty_passes g t rule o ≡ true) h (below _ _ rule parts.empties within) in
       none_is _ (implied _ _ (below t.classes tells class all (follows_within rule class follow)) follow)
 
-  productive_of : (rule : ℕ) (o : Option (ℕ × List Symbol)) → production_at g (slice_index t.witnesses rule) ≡ o → lower_passes t rule o ≡ true → IsProductive g (evidence_of t) rule
+  productive_of : (rule : ℕ) (o : Option (List Symbol)) → production_at g rule (slice_index t.witnesses rule) ≡ o → lower_passes t rule o ≡ true → IsProductive g (evidence_of t) rule
   productive_of rule None h passes = absurd (false≢true passes)
-  productive_of rule (Some q) h passes =
-      let both = and_parts (eqb q.0 rule) (symbols_lower t (slice_index t.heights rule) q.1) passes in
-      (q.1, h ∙ ap (λ n. Some (n, q.1)) (eqb-true q.0 rule both.0), lower_from (slice_index t.heights rule) q.1 both.1)
+  productive_of rule (Some to) h passes = (to, h, lower_from (slice_index t.heights rule) to passes)
 
   pub deterministic_from : IsDeterministic g (evidence_of t)
   deterministic_from = record {
@@ -218,7 +236,7 @@ module _ (g : Grammar) (t : Tables) (parts : Parts g t) where
     choices = choices_from;
     empties = empties_from;
     apart = apart_from;
-    productive = λ rule known. productive_of rule (production_at g (slice_index t.witnesses rule)) refl (below _ _ rule parts.lower known);
+    productive = λ rule known. productive_of rule (production_at g rule (slice_index t.witnesses rule)) refl (below _ _ rule parts.lower known);
   }
 
 -- a grammar that passes the test can be parsed from each nonterminal that has a witness

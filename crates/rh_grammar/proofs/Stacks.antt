@@ -66,11 +66,11 @@ not_on_top xs (Some y) x top differs others e = differs (ap (λ (s : Symbol). So
 pub record IsReplaced (g : Grammar) (rule class number : ℕ) (old new : List Symbol) : Type 0 where
   pub to : List Symbol
   pub others : List Symbol
-  pub production : production_at g number ≡ Some (rule, to)
+  pub production : production_at g rule number ≡ Some to
   pub old_is : reverse old ≡ Rule rule ∷ others
   pub new_is : reverse new ≡ to ++ others
 
-pub replaced_stack : (g : Grammar) (e : Evidence) → IsDeterministic g e → (rule class number : ℕ) (old mid new : List Symbol) (n : ℕ) → IsNextRule old (Some rule) → chosen g rule class ≡ Some number → n ≡ length old → mid ≡ take (n - 1) old → Pushes g number mid new → IsReplaced g rule class number old new
+pub replaced_stack : (g : Grammar) (e : Evidence) → IsDeterministic g e → (rule class number : ℕ) (old mid new : List Symbol) (n : ℕ) → IsNextRule old (Some rule) → chosen g rule class ≡ Some number → n ≡ length old → mid ≡ take (n - 1) old → Pushes g rule number mid new → IsReplaced g rule class number old new
 replaced_stack g e d rule class number old mid new n next is_chosen len left pushes =
     let made = chosen_production g e d 0 rule class number is_chosen in
     record {
@@ -78,13 +78,13 @@ replaced_stack g e d rule class number old mid new n next is_chosen len left pus
       others = next.0;
       production = made.1;
       old_is = next.1;
-      new_is = pushes rule made.0 made.1 ∙ ap (λ l. made.0 ++ l) (popped old mid n (Rule rule) next.0 len left next.1);
+      new_is = pushes made.0 made.1 ∙ ap (λ l. made.0 ++ l) (popped old mid n (Rule rule) next.0 len left next.1);
     }
 
 module _ (g : Grammar) (e : Evidence) (d : IsDeterministic g e) (rule class number : ℕ) (old new : List Symbol) (r : IsReplaced g rule class number old new) where
   pub lighter_stack : load g (reverse new) < load g (reverse old)
   lighter_stack =
-      let step = load_step g e d number rule r.to r.others r.production in
+      let step = load_step g e d rule number r.to r.others r.production in
       let light = ap (load g) r.new_is in
       let heavy = ap (load g) r.old_is in
       omega arith
@@ -92,7 +92,7 @@ module _ (g : Grammar) (e : Evidence) (d : IsDeterministic g e) (rule class numb
   pub parsed_replaced : (start : ℕ) (tokens ps qs : List ℕ) → chosen g rule class ≡ Some number → qs ≡ ps ++ number ∷ [] → IsParsed g e start (Next class) tokens (reverse old) ps → IsParsed g e start (Next class) tokens (reverse new) qs
   parsed_replaced start tokens ps qs is_chosen taken parsed =
       let before = subst (λ s. IsParsed g e start (Next class) tokens s ps) r.old_is parsed in
-      let after = parsed_step g e d start class tokens number rule r.to r.others ps before r.production is_chosen in
+      let after = parsed_step g e d start class tokens rule number r.to r.others ps before r.production is_chosen in
       subst (λ s. IsParsed g e start (Next class) tokens s qs) (sym r.new_is)
       (subst (λ l. IsParsed g e start (Next class) tokens (r.to ++ r.others) l) (sym taken) after)
 
@@ -130,7 +130,7 @@ module _ (g : Grammar) (e : Evidence) (d : IsDeterministic g e) (start : ℕ) (t
   pub end_step : (rule number : ℕ) (qs : List ℕ) → IsTop old (Some (Rule rule)) → empty g rule ≡ Some number → qs ≡ ps ++ number ∷ [] → IsParsed g e start End tokens (reverse new) qs
   end_step rule number qs top some taken =
       let before = subst (λ s. IsParsed g e start End tokens s ps) top.1 parsed in
-      let after = parsed_end g e d start tokens number rule top.0 ps before some in
+      let after = parsed_end g e d start tokens rule number top.0 ps before some in
       subst (λ s. IsParsed g e start End tokens s qs) (sym (popped old new n (Rule rule) top.0 len left top.1))
       (subst (λ l. IsParsed g e start End tokens top.0 l) (sym taken) after)
 

@@ -37,42 +37,40 @@ module _ (g : Grammar) (e : Evidence) (d : IsDeterministic g e) (start : ℕ) wh
     known = parsed.known;
   }
 
-  same_production : (p q rule : ℕ) (to to' : List Symbol) → production_at g p ≡ Some (rule, to) → production_at g q ≡ Some (rule, to') → p ≡ q → to' ≡ to
-  same_production p q rule to to' h h' same =
-      let both : ◌≡◌ {A = Option (ℕ × List Symbol)} (Some (rule, to')) (Some (rule, to)) = sym h' ∙ ap (production_at g) (sym same) ∙ h in
-      let pair : ◌≡◌ {A = ℕ × List Symbol} (rule, to') (rule, to) = cc in
-      ap (λ (x : ℕ × List Symbol). x.1) pair
+  same_production : (rule p q : ℕ) (to to' : List Symbol) → production_at g rule p ≡ Some to → production_at g rule q ≡ Some to' → p ≡ q → to' ≡ to
+  same_production rule p q to to' h h' same =
+      let both : ◌≡◌ {A = Option (List Symbol)} (Some to') (Some to) = sym h' ∙ ap (production_at g rule) (sym same) ∙ h in cc
 
-  replaced : (p rule : ℕ) (to α : List Symbol) (more : List ℕ) → production_at g p ≡ Some (rule, to) → (x : Expands (rules_of g) rule α more) → x.number ≡ p → (rs : List ℕ) × Derives (rules_of g) (to ++ α) rs more
-  replaced p rule to α more h x same =
-      (x.others, subst (λ t. Derives (rules_of g) (t ++ α) x.others more) (same_production p x.number rule to x.to h x.production (sym same)) x.derives)
+  replaced : (rule p : ℕ) (to α : List Symbol) (more : List ℕ) → production_at g rule p ≡ Some to → (x : Expands (rules_of g) rule α more) → x.number ≡ p → (rs : List ℕ) × Derives (rules_of g) (to ++ α) rs more
+  replaced rule p to α more h x same =
+      (x.others, subst (λ t. Derives (rules_of g) (t ++ α) x.others more) (same_production rule p x.number to x.to h x.production (sym same)) x.derives)
 
-  sound_step : (ahead : Ahead) (tokens : List ℕ) (p rule : ℕ) (to α : List Symbol) (ps : List ℕ) → IsParsed g e start ahead tokens (Rule rule ∷ α) ps → production_at g p ≡ Some (rule, to) → (qs more : List ℕ) → Derives (rules_of g) (to ++ α) qs more → Derives (rules_of g) (Rule start ∷ []) ((ps ++ p ∷ []) ++ qs) (tokens ++ more)
-  sound_step ahead tokens p rule to α ps parsed h qs more derives =
+  sound_step : (ahead : Ahead) (tokens : List ℕ) (rule p : ℕ) (to α : List Symbol) (ps : List ℕ) → IsParsed g e start ahead tokens (Rule rule ∷ α) ps → production_at g rule p ≡ Some to → (qs more : List ℕ) → Derives (rules_of g) (to ++ α) qs more → Derives (rules_of g) (Rule start ∷ []) ((ps ++ p ∷ []) ++ qs) (tokens ++ more)
+  sound_step ahead tokens rule p to α ps parsed h qs more derives =
       subst (λ l. Derives (rules_of g) (Rule start ∷ []) l (tokens ++ more)) (sym (append_assoc ps (p ∷ []) qs)) (parsed.sound (p ∷ qs) more (expand h derives))
 
   some_same : (a b : ℕ) → ◌≡◌ {A = Option ℕ} (Some a) (Some b) → a ≡ b
   some_same a b h = cc
 
-  complete_step : (class : ℕ) (tokens : List ℕ) (p rule : ℕ) (to α : List Symbol) (ps : List ℕ) → IsParsed g e start (Next class) tokens (Rule rule ∷ α) ps → production_at g p ≡ Some (rule, to) → chosen g rule class ≡ Some p → (qs more : List ℕ) → Come (Next class) more → Derives (rules_of g) (Rule start ∷ []) qs (tokens ++ more) → (rs : List ℕ) × Derives (rules_of g) (to ++ α) rs more
-  complete_step class tokens p rule to α ps parsed h is_chosen qs [] come derives = absurd come
-  complete_step class tokens p rule to α ps parsed h is_chosen qs (other ∷ more) come derives =
+  complete_step : (class : ℕ) (tokens : List ℕ) (rule p : ℕ) (to α : List Symbol) (ps : List ℕ) → IsParsed g e start (Next class) tokens (Rule rule ∷ α) ps → production_at g rule p ≡ Some to → chosen g rule class ≡ Some p → (qs more : List ℕ) → Come (Next class) more → Derives (rules_of g) (Rule start ∷ []) qs (tokens ++ more) → (rs : List ℕ) × Derives (rules_of g) (to ++ α) rs more
+  complete_step class tokens rule p to α ps parsed h is_chosen qs [] come derives = absurd come
+  complete_step class tokens rule p to α ps parsed h is_chosen qs (other ∷ more) come derives =
       let before = parsed.complete qs (other ∷ more) come derives in
       let x = expands before.1 in
       let by_table = predicted g e d rule other α more parsed.context x in
-      replaced p rule to α (other ∷ more) h x (some_same _ _ (sym by_table ∙ ap (chosen g rule) come ∙ is_chosen))
+      replaced rule p to α (other ∷ more) h x (some_same _ _ (sym by_table ∙ ap (chosen g rule) come ∙ is_chosen))
 
   chosen_cases : (rule class p : ℕ) (o : Option ℕ) → choice g rule class ≡ o → option_or o (empty g rule) ≡ Some p → IsProductionOf g rule p
   chosen_cases rule class p None e h = ([], d.empties rule p h)
   chosen_cases rule class p (Some q) e h = d.choices rule class p (e ∙ h)
 
   -- the nonterminal in front is replaced
-  pub parsed_step : (class : ℕ) (tokens : List ℕ) (p rule : ℕ) (to α : List Symbol) (ps : List ℕ) → IsParsed g e start (Next class) tokens (Rule rule ∷ α) ps → production_at g p ≡ Some (rule, to) → chosen g rule class ≡ Some p → IsParsed g e start (Next class) tokens (to ++ α) (ps ++ p ∷ [])
-  parsed_step class tokens p rule to α ps parsed h is_chosen = record {
-    sound = sound_step (Next class) tokens p rule to α ps parsed h;
-    complete = complete_step class tokens p rule to α ps parsed h is_chosen;
-    context = context_step g e d p rule to α h parsed.context;
-    known = known_append g e d to α (d.decided p rule to h).known parsed.known.1;
+  pub parsed_step : (class : ℕ) (tokens : List ℕ) (rule p : ℕ) (to α : List Symbol) (ps : List ℕ) → IsParsed g e start (Next class) tokens (Rule rule ∷ α) ps → production_at g rule p ≡ Some to → chosen g rule class ≡ Some p → IsParsed g e start (Next class) tokens (to ++ α) (ps ++ p ∷ [])
+  parsed_step class tokens rule p to α ps parsed h is_chosen = record {
+    sound = sound_step (Next class) tokens rule p to α ps parsed h;
+    complete = complete_step class tokens rule p to α ps parsed h is_chosen;
+    context = context_step g e d rule p to α h parsed.context;
+    known = known_append g e d to α (d.decided rule p to h).known parsed.known.1;
   }
 
   -- the token in front is taken
@@ -121,18 +119,18 @@ module _ (g : Grammar) (e : Evidence) (d : IsDeterministic g e) (start : ℕ) wh
     at_end = λ is_end _. absurd (omega arith);
   }
 
-  complete_end : (tokens : List ℕ) (p rule : ℕ) (α : List Symbol) (ps : List ℕ) → IsParsed g e start End tokens (Rule rule ∷ α) ps → empty g rule ≡ Some p → (qs more : List ℕ) → Come End more → Derives (rules_of g) (Rule start ∷ []) qs (tokens ++ more) → (rs : List ℕ) × Derives (rules_of g) α rs more
-  complete_end tokens p rule α ps parsed none qs [] come derives =
+  complete_end : (tokens : List ℕ) (rule p : ℕ) (α : List Symbol) (ps : List ℕ) → IsParsed g e start End tokens (Rule rule ∷ α) ps → empty g rule ≡ Some p → (qs more : List ℕ) → Come End more → Derives (rules_of g) (Rule start ∷ []) qs (tokens ++ more) → (rs : List ℕ) × Derives (rules_of g) α rs more
+  complete_end tokens rule p α ps parsed none qs [] come derives =
       let before = parsed.complete qs [] come derives in
       let x = expands before.1 in
-      replaced p rule [] α [] (d.empties rule p none) x (some_same _ _ (sym (predicted_end g e d rule α x) ∙ none))
-  complete_end tokens p rule α ps parsed none qs (other ∷ more) come derives = absurd come
+      replaced rule p [] α [] (d.empties rule p none) x (some_same _ _ (sym (predicted_end g e d rule α x) ∙ none))
+  complete_end tokens rule p α ps parsed none qs (other ∷ more) come derives = absurd come
 
   -- at the end the nonterminal in front is dropped
-  pub parsed_end : (tokens : List ℕ) (p rule : ℕ) (α : List Symbol) (ps : List ℕ) → IsParsed g e start End tokens (Rule rule ∷ α) ps → empty g rule ≡ Some p → IsParsed g e start End tokens α (ps ++ p ∷ [])
-  parsed_end tokens p rule α ps parsed none = record {
-    sound = sound_step End tokens p rule [] α ps parsed (d.empties rule p none);
-    complete = complete_end tokens p rule α ps parsed none;
+  pub parsed_end : (tokens : List ℕ) (rule p : ℕ) (α : List Symbol) (ps : List ℕ) → IsParsed g e start End tokens (Rule rule ∷ α) ps → empty g rule ≡ Some p → IsParsed g e start End tokens α (ps ++ p ∷ [])
+  parsed_end tokens rule p α ps parsed none = record {
+    sound = sound_step End tokens rule p [] α ps parsed (d.empties rule p none);
+    complete = complete_end tokens rule p α ps parsed none;
     context = parsed.context.1;
     known = parsed.known.1;
   }

@@ -18,7 +18,7 @@ begins g (Token other ∷ symbols) class = other == class
 begins g (Rule rule ∷ symbols) class = is_some (choice g rule class) || (is_some (empty g rule) && begins g symbols class)
 
 -- What the test of a grammar goes by: which classes may follow a nonterminal, and for each of so
--- many nonterminals a production of lower ones.
+-- many nonterminals an alternative of lower ones.
 pub record Evidence : Type 0 where
   pub follows : ℕ → ℕ → Bool
   pub count : ℕ
@@ -43,7 +43,7 @@ AreLower e height [] = Unit {0}
 AreLower e height (Token class ∷ symbols) = AreLower e height symbols
 AreLower e height (Rule rule ∷ symbols) = (rule < e.count) × (e.height rule < height) × AreLower e height symbols
 
--- in a production of a nonterminal, what may come after each nonterminal may follow it
+-- in an alternative of a nonterminal, what may come after each nonterminal may follow it
 abbrev pub AreFollowed : Grammar → Evidence → ℕ → List Symbol → Type 0
 AreFollowed g e of [] = Unit {0}
 AreFollowed g e of (Token class ∷ symbols) = AreFollowed g e of symbols
@@ -52,8 +52,8 @@ AreFollowed g e of (Rule rule ∷ symbols) =
     × (vanishes g symbols ≡ true → (class : ℕ) → e.follows of class ≡ true → e.follows rule class ≡ true)
     × AreFollowed g e of symbols
 
--- one production of a grammar
-pub record IsDecided (g : Grammar) (e : Evidence) (p rule : ℕ) (to : List Symbol) : Type 0 where
+-- one alternative of a nonterminal
+pub record IsDecided (g : Grammar) (e : Evidence) (rule p : ℕ) (to : List Symbol) : Type 0 where
   -- the table has it at each token with which it may begin
   pub chosen : (class : ℕ) → begins g to class ≡ true → choice g rule class ≡ Some p
   -- the table has it as the one of no symbols, if it may derive no token
@@ -62,19 +62,19 @@ pub record IsDecided (g : Grammar) (e : Evidence) (p rule : ℕ) (to : List Symb
   pub lighter : load g to < weight g rule
   pub known : AreKnown e to
 
--- a production of the nonterminal has this number
+-- an alternative of the nonterminal has this number
 abbrev pub IsProductionOf : Grammar → ℕ → ℕ → Type 0
-IsProductionOf g rule p = (to : List Symbol) × (production_at g p ≡ Some (rule, to))
+IsProductionOf g rule p = (to : List Symbol) × (production_at g rule p ≡ Some to)
 
--- a nonterminal derives something, by productions of lower ones
+-- a nonterminal derives something, by alternatives of lower nonterminals
 abbrev pub IsProductive : Grammar → Evidence → ℕ → Type 0
-IsProductive g e rule = (to : List Symbol) × (production_at g (e.witness rule) ≡ Some (rule, to)) × AreLower e (e.height rule) to
+IsProductive g e rule = (to : List Symbol) × (production_at g rule (e.witness rule) ≡ Some to) × AreLower e (e.height rule) to
 
 -- one token decides, and each nonterminal derives something
 pub record IsDeterministic (g : Grammar) (e : Evidence) : Type 0 where
-  pub decided : (p rule : ℕ) (to : List Symbol) → production_at g p ≡ Some (rule, to) → IsDecided g e p rule to
+  pub decided : (rule p : ℕ) (to : List Symbol) → production_at g rule p ≡ Some to → IsDecided g e rule p to
   pub choices : (rule class p : ℕ) → choice g rule class ≡ Some p → IsProductionOf g rule p
-  pub empties : (rule p : ℕ) → empty g rule ≡ Some p → production_at g p ≡ Some (rule, [])
+  pub empties : (rule p : ℕ) → empty g rule ≡ Some p → production_at g rule p ≡ Some []
   -- where a nonterminal may derive nothing, no token that follows it is one that it begins with
   pub apart : (rule class p : ℕ) → empty g rule ≡ Some p → e.follows rule class ≡ true → choice g rule class ≡ None
   pub productive : (rule : ℕ) → rule < e.count → IsProductive g e rule

@@ -4,3 +4,4 @@ pub mod Deterministic
 pub mod Stack
 pub mod Parsing
 pub mod Test
+pub mod Cursor

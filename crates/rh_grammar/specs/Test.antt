@@ -1,22 +1,24 @@
 -- A test that a grammar is decided by one token and that each nonterminal derives something.
-use Rattle.std.specs.Prelude.{ℕ, zero, suc, Bool, true, false, ◌&&◌, ◌==◌, nat_lt, nat_le, List, [], ◌∷◌, length, Option, Some, None, is_none, slice_get, slice_index, unwrap_or}
-use Rattle.std.specs.List.{list_all}
+use Rattle.std.specs.Prelude.{ℕ, zero, suc, Bool, true, false, ◌&&◌, ◌==◌, nat_lt, List, [], ◌∷◌, length, Option, Some, None, is_none, slice_get, slice_index, unwrap_or}
+use Rattle.std.specs.List.{list_all, list_any}
 use Rattle.rh_grammar.specs.declared.grammar.Symbol.{Symbol}
 use Rattle.rh_grammar.specs.declared.grammar.Symbol.TheVariants.{Token, Rule}
-use Rattle.rh_grammar.specs.declared.grammar.Production.{Production}
+use Rattle.rh_grammar.specs.declared.grammar.Alternative.{Alternative}
+use Rattle.rh_grammar.specs.declared.grammar.Nonterminal.{Nonterminal}
 use Rattle.rh_grammar.specs.declared.grammar.Grammar.{Grammar}
-use Rattle.rh_grammar.specs.Tables.{choice, empty, weight, production_at}
+use Rattle.rh_grammar.specs.Tables.{choice, empty, weight, production_at, rules_of}
+use Rattle.rh_grammar.specs.Derivation.{alternatives}
 use Rattle.rh_grammar.specs.Deterministic.{vanishes, begins, load, Evidence}
 
--- What the test goes by, as tables: for each nonterminal which classes may follow it, a production and a height.
+-- What the test goes by: for each nonterminal the classes that may follow it, an alternative and a height.
 pub record Tables : Type 0 where
   pub classes : ℕ
-  pub follow : List (List Bool)
+  pub follow : List (List ℕ)
   pub witnesses : List ℕ
   pub heights : List ℕ
 
 abbrev pub follows_in : Tables → ℕ → ℕ → Bool
-follows_in t rule class = nat_lt class t.classes && unwrap_or (slice_get (unwrap_or (slice_get t.follow rule) []) class) false
+follows_in t rule class = nat_lt class t.classes && list_any (λ c. c == class) (unwrap_or (slice_get t.follow rule) [])
 
 abbrev pub evidence_of : Tables → Evidence
 evidence_of t = record {
@@ -59,49 +61,40 @@ symbols_followed g t of (Rule rule ∷ symbols) =
     && (implies (vanishes g symbols) (all_below t.classes (λ class. implies (follows_in t of class) (follows_in t rule class)))
     && symbols_followed g t of symbols)
 
--- one production
+-- one alternative
 abbrev pub production_passes : Grammar → Tables → ℕ → ℕ → List Symbol → Bool
-production_passes g t p rule to =
+production_passes g t rule p to =
     all_below t.classes (λ class. implies (begins g to class) (is_number (choice g rule class) p))
     && (implies (vanishes g to) (is_number (empty g rule) p)
     && (symbols_followed g t rule to
     && (nat_lt (load g to) (weight g rule)
     && symbols_known t to)))
 
--- the productions from a number on
-abbrev pub productions_pass : Grammar → Tables → ℕ → List Production → Bool
-productions_pass g t p [] = true
-productions_pass g t p (one ∷ others) = production_passes g t p one.of one.to.now && productions_pass g t (suc p) others
+-- the alternatives of a nonterminal from a number on
+abbrev pub productions_pass : Grammar → Tables → ℕ → ℕ → List (List Symbol) → Bool
+productions_pass g t rule p [] = true
+productions_pass g t rule p (to ∷ others) = production_passes g t rule p to && productions_pass g t rule (suc p) others
 
--- the production of the number is of the nonterminal
-abbrev pub is_of : Option (ℕ × List Symbol) → ℕ → Bool
-is_of None rule = false
-is_of (Some p) rule = p.0 == rule
-
-abbrev pub is_empty_of : Option (ℕ × List Symbol) → ℕ → Bool
-is_empty_of None rule = false
-is_empty_of (Some (of, [])) rule = of == rule
-is_empty_of (Some (of, x ∷ xs)) rule = false
-
-abbrev pub entry_passes : Grammar → ℕ → Option ℕ → Bool
-entry_passes g rule None = true
-entry_passes g rule (Some p) = is_of (production_at g p) rule
-
--- an empty production is one, and what follows its nonterminal is told from what that begins with
+-- what follows a nonterminal that may be empty is told from what that begins with
 abbrev pub empty_passes : Grammar → Tables → ℕ → Option ℕ → Bool
 empty_passes g t rule None = true
-empty_passes g t rule (Some p) =
-    is_empty_of (production_at g p) rule && all_below t.classes (λ class. implies (follows_in t rule class) (is_none (choice g rule class)))
+empty_passes g t rule (Some p) = all_below t.classes (λ class. implies (follows_in t rule class) (is_none (choice g rule class)))
 
-abbrev pub lower_passes : Tables → ℕ → Option (ℕ × List Symbol) → Bool
+abbrev pub lower_passes : Tables → ℕ → Option (List Symbol) → Bool
 lower_passes t rule None = false
-lower_passes t rule (Some p) = (p.0 == rule) && symbols_lower t (slice_index t.heights rule) p.1
+lower_passes t rule (Some to) = symbols_lower t (slice_index t.heights rule) to
+
+-- the classes at which alternatives are taken are below the bound
+abbrev pub classes_known : Tables → Alternative → Bool
+classes_known t a = list_all (λ class. nat_lt class t.classes) a.at.now
+
+abbrev pub nonterminal_known : Tables → Nonterminal → Bool
+nonterminal_known t n = list_all (classes_known t) n.alternatives.now
 
 -- the whole test
 abbrev pub is_deterministic : Grammar → Tables → Bool
 is_deterministic g t =
-    productions_pass g t 0 g.productions.now
-    && (all_below (length g.choices.now) (λ rule. all_below t.classes (λ class. entry_passes g rule (choice g rule class)))
-    && (list_all (λ row. nat_le (length row.now) t.classes) g.choices.now
-    && (all_below (length g.empties.now) (λ rule. empty_passes g t rule (empty g rule))
-    && all_below (length t.witnesses) (λ rule. lower_passes t rule (production_at g (slice_index t.witnesses rule))))))
+    all_below (length g.nonterminals.now) (λ rule. productions_pass g t rule 0 (alternatives (rules_of g) rule))
+    && (list_all (nonterminal_known t) g.nonterminals.now
+    && (all_below (length g.nonterminals.now) (λ rule. empty_passes g t rule (empty g rule))
+    && all_below (length t.witnesses) (λ rule. lower_passes t rule (production_at g rule (slice_index t.witnesses rule)))))

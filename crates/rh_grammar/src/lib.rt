@@ -1,9 +1,13 @@
-//! Recognises the lists that a grammar derives, looking at one token at a time.
+//! Grammars as data: one parser for all, and a cursor by which readers follow what it found.
 #![tactic(auto)]
 
+mod cursor;
 mod grammar;
 mod parser;
+mod part;
 mod tables;
 
-pub use grammar::{Grammar, Production, Symbol};
+pub use cursor::{Cursor, Word};
+pub use grammar::{Alternative, Grammar, Nonterminal, Symbol};
 pub use parser::{ParseFault, parse};
+pub use part::{Part, repeated};

@@ -49,11 +49,16 @@ fn push_all(stack: &mut Vec<Symbol>, symbols: &[Symbol]) -> Result<(), AllocErro
     Ok(())
 }
 
-/// Puts the symbols of a production on a stack.
-fn push_production(stack: &mut Vec<Symbol>, grammar: &Grammar, number: u8) -> Result<(), AllocError>
-    ensures { OnOk result (Pushes grammar.now number stack.old.items stack.new.items) }
+/// Puts the symbols of an alternative on a stack.
+fn push_production(
+    stack: &mut Vec<Symbol>,
+    grammar: &Grammar,
+    rule: u8,
+    number: u8,
+) -> Result<(), AllocError>
+    ensures { OnOk result (Pushes grammar.now rule number stack.old.items stack.new.items) }
 {
-    if let Some(symbols) = grammar.symbols(number) {
+    if let Some(symbols) = grammar.symbols(rule, number) {
         push_all(stack, symbols)?;
     }
     Ok(())
@@ -91,7 +96,7 @@ fn settle(
             return Ok(());
         };
         stack.pop();
-        push_production(stack, grammar, number)?;
+        push_production(stack, grammar, rule, number)?;
         taken.push(number)?;
     }
     Ok(())
@@ -135,11 +140,11 @@ fn finish(
     Ok(true)
 }
 
-/// The productions by which a nonterminal derives tokens, in the order in which they replace the
-/// leftmost nonterminal; or the first token that cannot continue a derivable list.
+/// The alternatives by which a nonterminal derives tokens, in the order in which they replace the
+/// leftmost nonterminal, each by its number within its own; or the first token that cannot continue a derivable list.
 ///
 /// The parser is the one for LL(1) grammars of "Compilers: Principles, Techniques, and Tools" by
-/// Aho, Lam, Sethi and Ullman, 2006, with the empty productions as the default.
+/// Aho, Lam, Sethi and Ullman, 2006, with the empty alternatives as the default.
 pub fn parse(
     alloc: Global,
     grammar: &Grammar,

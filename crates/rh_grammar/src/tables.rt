@@ -1,40 +1,29 @@
-//! Macros that write the tables of a grammar, one row a line. Where they are used, a module `class` has
-//! the classes of tokens as constants.
+//! Macros that write the alternatives of a grammar. Where they are used, a module `class` has the
+//! classes of tokens as constants, and a module `rule` the nonterminals.
 
-/// A symbol: a class of tokens in brackets, or the number of a nonterminal.
+/// A symbol: a class of tokens in brackets, or a nonterminal.
 #[macro_export]
 macro_rules! symbol {
     ([$class:ident]) => {
         $crate::Symbol::Token(class::$class)
     };
-    ($rule:literal) => {
-        $crate::Symbol::Rule($rule)
+    ($rule:ident) => {
+        $crate::Symbol::Rule(rule::$rule)
     };
 }
 
-/// What the nonterminal of a number may be replaced by.
+/// An alternative: the classes at which it is taken, and its symbols.
 #[macro_export]
-macro_rules! derives {
-    ($rule:literal: $($symbol:tt)*) => {
-        $crate::Production { of: $rule, to: &[$($crate::symbol!($symbol)),*] }
+macro_rules! on {
+    ($($class:ident)* => $($symbol:tt)*) => {
+        $crate::Alternative { at: &[$(class::$class),*], to: &[$($crate::symbol!($symbol)),*] }
     };
 }
 
-/// The number of a production, or `_`.
+/// A nonterminal: its weight, and its alternatives.
 #[macro_export]
-macro_rules! choice {
-    (_) => {
-        None
-    };
-    ($number:literal) => {
-        Some($number)
-    };
-}
-
-/// The production to take at each class of tokens.
-#[macro_export]
-macro_rules! row {
-    ($($choice:tt)*) => {
-        &[$($crate::choice!($choice)),*]
+macro_rules! nonterminal {
+    ($weight:literal; $({$($alternative:tt)*})*) => {
+        $crate::Nonterminal { weight: $weight, alternatives: &[$($crate::on!($($alternative)*)),*] }
     };
 }

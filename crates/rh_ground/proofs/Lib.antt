@@ -8,4 +8,6 @@ pub mod SameFacts
 pub mod SameForm
 pub mod Finding
 pub mod Visiting
+pub mod Trying
+pub mod InstanceParts
 pub mod Greatest

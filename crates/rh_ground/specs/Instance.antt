@@ -61,6 +61,14 @@ abbrev pub matches_at : Proc → Binding → Form → Node → Bool
 matches_at proc binding pattern AtEntry = matches_entry binding pattern
 matches_at proc binding pattern (At number) = option_map_or (matches binding pattern) (slice_get proc.body number) false
 
+-- the numbers in the rule's facts are constants of the procedure
+abbrev pub is_rule_in : Proc → Rule → Bool
+is_rule_in proc rule = list_all (is_fact_in_domain proc) rule.premises && is_conclusion_in_domain proc rule.conclusion
+
+-- the rule's pattern is what stands at the node, and its side conditions hold
+abbrev pub rule_matches : Proc → Rule → Binding → Node → Bool
+rule_matches proc rule binding node = matches_at proc binding rule.pattern node && list_all (side_holds binding) rule.sides
+
 -- under the binding the rule is about the node
 abbrev pub is_instance : Proc → Rule → Binding → Node → Bool
 is_instance proc rule binding node =

@@ -4,11 +4,13 @@ ghost use Rattle.std.specs.List.{list_all, list_any};
 ghost use Rattle.std.specs.Ordering.{int_eq};
 ghost use Rattle.rh_il.specs.Op.{number_of};
 ghost use Rattle.rh_domain.specs.Binding.{arg_under, as_number, domain_of};
+ghost use Rattle.rh_ground.specs.Forms.{is_entry, may_match};
 ghost use Rattle.rh_ground.specs.InDomain.{is_base_in, is_conclusion_in, is_fact_in};
-ghost use Rattle.rh_ground.specs.Instance.{is_instance, matches_at, matches_entry, side_arg, side_holds};
+ghost use Rattle.rh_ground.specs.Instance.{is_instance, is_rule_in, matches_at, matches_entry, rule_matches, side_arg, side_holds};
 ghost use Rattle.rh_ground.specs.Match.{is_variable};
 ghost use Rattle.rh_ground.specs.SameFact.{args_eq, is_fact_under};
 
+use crate::forms::is_form_of;
 use crate::matching::{is_variable, matches};
 use rh_domain::{Args, Domain, arg_under};
 use rh_il::{Node, Op, Proc, Value};
@@ -124,15 +126,50 @@ fn matches_at(proc: &Proc, binding: &[Arg], pattern: Form, node: Node) -> bool
     }
 }
 
+/// Whether a pattern may be what stands at a node, as far as its form and its numbers tell.
+pub fn may_match(proc: &Proc, pattern: Form, node: Node) -> bool
+    ensures { result ≡ may_match proc.now pattern node }
+{
+    match node {
+        Node::Entry => is_entry(pattern),
+        Node::At(number) => match proc.body.as_slice().get(number as usize) {
+            Some(stmt) => is_form_of(pattern, *stmt),
+            None => false,
+        },
+    }
+}
+
+/// Whether a pattern is of an entry.
+fn is_entry(pattern: Form) -> bool
+    ensures { result ≡ is_entry pattern }
+{
+    match pattern {
+        Form::Entry(_) => true,
+        _ => false,
+    }
+}
+
+/// Whether the numbers in a rule's facts are constants of a procedure.
+pub fn is_rule_in(proc: &Proc, domain: &Domain, rule: &Rule) -> bool
+    requires { domain.now ≡ domain_of proc.now }
+    ensures { result ≡ is_rule_in proc.now rule.now }
+{
+    are_facts_in(domain, rule.premises.as_slice()) && is_conclusion_in(domain, &rule.conclusion)
+}
+
+/// Whether a rule's pattern is what stands at a node, and its side conditions hold.
+pub fn rule_matches(proc: &Proc, rule: &Rule, binding: &[Arg], node: Node) -> bool
+    ensures { result ≡ rule_matches proc.now rule.now binding.now node }
+{
+    matches_at(proc, binding, rule.pattern, node) && do_sides_hold(binding, rule.sides.as_slice())
+}
+
 /// Whether a rule is about a node of a procedure under a binding.
 pub fn is_instance(proc: &Proc, domain: &Domain, rule: &Rule, binding: &[Arg], node: Node) -> bool
     requires { domain.now ≡ domain_of proc.now }
     ensures { result ≡ is_instance proc.now rule.now binding.now node }
 {
-    matches_at(proc, binding, rule.pattern, node)
-        && do_sides_hold(binding, rule.sides.as_slice())
-        && are_facts_in(domain, rule.premises.as_slice())
-        && is_conclusion_in(domain, &rule.conclusion)
+    rule_matches(proc, rule, binding, node) && is_rule_in(proc, domain, rule)
 }
 
 /// What operands stand for under a binding, where there are no more than six.

@@ -2,9 +2,11 @@
 ghost use Rattle.std.specs.Prelude.{◌≡◌, ◌+◌, ◌≤◌, ◌++◌, ◌∷◌, [], length, map};
 ghost use Rattle.rh_domain.specs.Binding.{Binding, bindings_in};
 ghost use Rattle.rh_domain.specs.Count.{IsSmall};
+ghost use Rattle.rh_ground.specs.Find.{AreToTry};
 ghost use Rattle.rh_ground.specs.Visit.{VisitsWanted};
 
-use crate::find::{numbers_to_try, push_arg};
+use crate::find::push_arg;
+use crate::ranges::{Ranges, ranges_to_try};
 use crate::wanted::Wanted;
 use rh_domain::{Args, Domain};
 use rh_rule::{Arg, Param};
@@ -33,19 +35,22 @@ pub fn visit_bindings<V: Visitor>(
     requires few { length params.now ≤ 6 }
     ensures { VisitsWanted (V.visits visitor.now) (V.accepts visitor.now) (bindings_in domain.now params.now) kept.old kept.new }
 {
-    visit_after(domain, params, visitor, &mut Args::new(), kept);
+    let ranges = ranges_to_try(domain, params, visitor);
+    visit_after(domain, params, &ranges, visitor, &mut Args::new(), kept);
 }
 
-/// Visits all wanted bindings that begin with the arguments that are there.
+/// Visits all wanted bindings that begin with the arguments that are there, by the ranges of all parameters.
 fn visit_after<V: Visitor>(
     domain: &Domain,
     params: &[Param],
+    ranges: &Ranges,
     visitor: &V,
     args: &mut Args,
     kept: &mut V::Kept,
 )
     requires small { IsSmall domain.now }
     requires room { length args.old + length params.now ≤ 6 }
+    requires ranges { AreToTry domain.now (V.accepts visitor.now) (length args.old) params.now ranges.now }
     ensures args { args.new ≡ args.old }
     ensures visited { VisitsWanted (V.visits visitor.now) (V.accepts visitor.now) (map (λ rest. args.old ++ rest) (bindings_in domain.now params.now)) kept.old kept.new }
 {
@@ -54,10 +59,10 @@ fn visit_after<V: Visitor>(
         return;
     };
     let meta = args.len();
-    let (first, end) = numbers_to_try(domain, param.kind, visitor.fixed(meta as u32));
+    let (first, end) = ranges.at(meta);
     for number in first..end {
         push_arg(domain, param.kind, number, args);
-        visit_after(domain, others, visitor, args, kept);
+        visit_after(domain, others, ranges, visitor, args, kept);
         args.truncate(meta);
     }
 }

@@ -13,12 +13,12 @@ use Rattle.rh_il.specs.declared.fault.ProgFault.TheVariants.{Wrong, NoMemory as 
 use Rattle.rh_il.specs.Checks.{program_fault}
 use Rattle.rh_il_text.specs.declared.fault.ReadFault.{ReadFault}
 use Rattle.rh_il_text.specs.declared.fault.ReadFault.TheVariants.{Lex, Syntax, Unknown, Program, NoMemory}
-use Rattle.rh_il_text.specs.declared.source.Source.{Source}
-use Rattle.rh_il_text.specs.Grammar.{productions, program}
-use Rattle.rh_il_text.specs.Words.{words_of, classes_of}
+use Rattle.rh_il_source.specs.declared.source.Source.{Source}
+use Rattle.rh_il_source.specs.Grammar.{productions, program}
+use Rattle.rh_il_source.specs.Words.{words_of, classes_of}
 use Rattle.rh_il_text.specs.Known.{procs_of}
 use Rattle.rh_il_text.specs.Program.{Spells, IsText, IsSyntaxAt, IsUnknownAt, IsWrong, FaultsAs, first_missing, start_of}
-use Rattle.rh_il_text.proofs.OneReadingFiles.{file_words_unique}
+use Rattle.rh_il_source.proofs.OneReadingFiles.{file_words_unique}
 
 module _ (text : List ℕ) where
   -- the procedures that a text spells

@@ -10,12 +10,12 @@ use Rattle.rh_text.specs.declared.sign.Sign.TheVariants.{OpenParen, OpenBrace, C
 use Rattle.rh_text.specs.Words.{spelling}
 use Rattle.rh_il.specs.Checks.{is_proper, has_proper_names}
 use Rattle.rh_il.specs.declared.keyword.Keyword.{Keyword}
-use Rattle.rh_il_text.specs.declared.word.Word.{Word}
-use Rattle.rh_il_text.specs.declared.word.Word.TheVariants.{Sign as SignWord, Name, Other}
-use Rattle.rh_il_text.specs.declared.source.Source.{Source}
+use Rattle.rh_il_source.specs.declared.word.Word.{Word}
+use Rattle.rh_il_source.specs.declared.word.Word.TheVariants.{Sign as SignWord, Name, Other}
+use Rattle.rh_il_source.specs.declared.source.Source.{Source}
 use Rattle.rh_il.specs.Keywords.{keyword_of}
-use Rattle.rh_il_text.specs.Words.{lower_word, word_as, words_of}
-use Rattle.rh_il_text.specs.Source.{more_words, locals_words, closed_words, source_words, file_words, vars_entries}
+use Rattle.rh_il_source.specs.Words.{lower_word, word_as, words_of}
+use Rattle.rh_il_source.specs.Source.{more_words, locals_words, closed_words, source_words, file_words, vars_entries}
 use Rattle.rh_il_text.specs.Known.{proc_of}
 
 -- a name that programs may have, or no name

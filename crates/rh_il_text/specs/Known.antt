@@ -9,13 +9,13 @@ use Rattle.rh_il.specs.declared.program.Base.TheVariants.{Var as VarBase, Num as
 use Rattle.rh_il.specs.declared.program.Stmt.{Stmt}
 use Rattle.rh_il.specs.declared.program.Stmt.TheVariants.{Skip as SkipStmt, Copy as CopyStmt, Address as AddressStmt, Load as LoadStmt, Compute as ComputeStmt, Write as WriteStmt, New as NewStmt, Call as CallStmt, Goto as GotoStmt, If as IfStmt, Return as ReturnStmt}
 use Rattle.rh_il.specs.declared.program.Proc.{Proc}
-use Rattle.rh_il_text.specs.declared.word.Word.{Word}
-use Rattle.rh_il_text.specs.declared.source.Operand.{Operand}
-use Rattle.rh_il_text.specs.declared.source.Operand.TheVariants.{Var, Num}
-use Rattle.rh_il_text.specs.declared.source.Line.{Line}
-use Rattle.rh_il_text.specs.declared.source.Line.TheVariants.{Skip, Copy, Address, Load, Compute, Write, New, Call, Goto, If, Return}
-use Rattle.rh_il_text.specs.declared.source.Source.{Source}
-use Rattle.rh_il_text.specs.Source.{operand_entries, line_entries, closed_line, more_entries, locals_entries, vars_entries, source_entries}
+use Rattle.rh_il_source.specs.declared.word.Word.{Word}
+use Rattle.rh_il_source.specs.declared.source.Operand.{Operand}
+use Rattle.rh_il_source.specs.declared.source.Operand.TheVariants.{Var, Num}
+use Rattle.rh_il_source.specs.declared.source.Line.{Line}
+use Rattle.rh_il_source.specs.declared.source.Line.TheVariants.{Skip, Copy, Address, Load, Compute, Write, New, Call, Goto, If, Return}
+use Rattle.rh_il_source.specs.declared.source.Source.{Source}
+use Rattle.rh_il_source.specs.Source.{operand_entries, line_entries, closed_line, more_entries, locals_entries, vars_entries, source_entries}
 
 -- the name is one of those
 abbrev pub is_known : List (List ℕ) → List ℕ → Bool

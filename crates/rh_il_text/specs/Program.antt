@@ -13,10 +13,10 @@ use Rattle.rh_il.specs.declared.fault.ProgFault.TheVariants.{Wrong, NoMemory as 
 use Rattle.rh_il.specs.Checks.{program_fault}
 use Rattle.rh_il_text.specs.declared.fault.ReadFault.{ReadFault}
 use Rattle.rh_il_text.specs.declared.fault.ReadFault.TheVariants.{Lex, Syntax, Unknown, Program, NoMemory}
-use Rattle.rh_il_text.specs.declared.source.Source.{Source}
-use Rattle.rh_il_text.specs.Grammar.{productions, program}
-use Rattle.rh_il_text.specs.Words.{words_of, classes_of}
-use Rattle.rh_il_text.specs.Source.{file_words}
+use Rattle.rh_il_source.specs.declared.source.Source.{Source}
+use Rattle.rh_il_source.specs.Grammar.{productions, program}
+use Rattle.rh_il_source.specs.Words.{words_of, classes_of}
+use Rattle.rh_il_source.specs.Source.{file_words}
 use Rattle.rh_il_text.specs.Known.{file_marks, procs_of}
 
 -- these are the tokens of the text, the classes of their words are derived from the grammar, and the

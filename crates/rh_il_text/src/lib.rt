@@ -1,18 +1,10 @@
-//! The text of programs.
+//! What is read as a program. Begin with `read_program`.
 #![tactic(auto)]
 
 mod fault;
-mod grammar;
-mod judge;
 mod marks;
-mod printer;
 mod read;
-mod reader;
 mod resolve;
-mod source;
-mod statement;
-mod word;
 
 pub use fault::ReadFault;
-pub use printer::print_program;
 pub use read::{program_texts_have_one_answer, read_program};

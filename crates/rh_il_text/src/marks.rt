@@ -4,8 +4,8 @@ ghost use Rattle.std.specs.Prelude.{◌≡◌, ◌++◌, map, OnOk, IfOk};
 ghost use Rattle.std.specs.List.{flat_map};
 ghost use Rattle.rh_il_text.specs.Known.{operand_marks, line_marks, closed_marks, more_marks, locals_marks, vars_marks, source_marks, names_of, file_marks};
 
-use crate::source::{Line, Operand, Source};
 use rh_il::Name;
+use rh_il_source::{Line, Operand, Source};
 use rh_names::Names;
 use std::alloc::{AllocError, Global};
 

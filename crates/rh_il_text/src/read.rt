@@ -7,20 +7,17 @@ ghost use Rattle.rh_text.specs.Pieces.{AreTokens};
 ghost use Rattle.rh_il.specs.declared.program.Proc.{Proc};
 ghost use Rattle.rh_il.specs.declared.fault.ProgFault.{ProgFault};
 ghost use Rattle.rh_il.specs.Checks.{has_proper_names, program_fault};
-ghost use Rattle.rh_il_text.specs.Words.{words_of, classes_of};
+ghost use Rattle.rh_il_source.specs.Words.{words_of, classes_of};
 ghost use Rattle.rh_il_text.specs.Program.{Spells, IsText, start_of, FaultsAs, HasOneAnswer, IsProgram, IsFault, of_lexer, of_checks};
 ghost use Rattle.rh_il_text.specs.declared.fault.ReadFault.{ReadFault};
 ghost use Rattle.rh_il_text.specs.declared.fault.ReadFault.TheVariants.{NoMemory};
 
 use crate::fault::ReadFault;
-use crate::judge::judge;
 use crate::marks::{marks_of, names_of};
-use crate::reader::read_sources;
 use crate::resolve::procs_of;
-use crate::source::Source;
-use crate::word::{Word, class_of, word_of};
 use rh_grammar::ParseFault;
 use rh_il::{Proc, ProgFault, Program};
+use rh_il_source::{Source, Word, class_of, read_sources, steps_of, word_of};
 use rh_list::Items;
 use rh_text::{LexFault, TEXT_LIMIT, Token, tokens};
 use std::alloc::{AllocError, Global};
@@ -91,8 +88,8 @@ fn sources_of(alloc: Global, text: &[u8], tokens: &[Token]) -> Result<Items<Sour
 {
     let words = words_of(alloc, text, tokens)?;
     let classes = classes_of(alloc, &words)?;
-    match judge(alloc, &classes) {
-        Ok(()) => Ok(read_sources(alloc, &words)?),
+    match steps_of(alloc, &classes) {
+        Ok(steps) => Ok(read_sources(alloc, &steps, &words)?),
         Err(ParseFault::Syntax(place)) => Err(ReadFault::Syntax(start_of(text, tokens, place))),
         Err(ParseFault::NoMemory) => Err(ReadFault::NoMemory),
     }

@@ -3,8 +3,8 @@
 ghost use Rattle.std.specs.Prelude.{◌≡◌, map, IfOk};
 ghost use Rattle.rh_il_text.specs.Known.{place_of, number_of, base_of, stmt_of, proc_of, names_of};
 
-use crate::source::{Line, Operand, Source};
 use rh_il::{Base, Name, Proc, Stmt};
+use rh_il_source::{Line, Operand, Source};
 use rh_list::Items;
 use rh_names::Names;
 use rh_text::signed;

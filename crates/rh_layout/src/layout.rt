@@ -98,8 +98,8 @@ impl Layout {
         laid.bit_of(schemas, edge, schema, args)
     }
 
-    /// The place of the procedure that has a word.
-    fn place_of(&self, word: u64) -> Option<usize>
+    /// The place of the procedure that has a word, where one has it.
+    pub fn place_of(&self, word: u64) -> Option<usize>
         requires { (schemas : List Schema) × (procs : List Proc) × IsLayoutOf schemas procs self.now }
         ensures { result ≡ position (has_word word) self.now.procs }
     {

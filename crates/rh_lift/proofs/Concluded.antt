@@ -20,12 +20,12 @@ use Rattle.rh_domain.specs.Binding.{Binding, FitsBinding}
 use Rattle.rh_ground.specs.Instance.{fact_under, side_holds}
 use Rattle.rh_term.specs.Model.{Model, AStore}
 use Rattle.rh_term.proofs.Stores.{SameReads}
-use Rattle.rh_oblig.specs.Goals.{conclusion_goals, goals}
-use Rattle.rh_oblig.specs.Hypotheses.{conclusion_clauses, hypotheses, own_clauses, side_literal, slot_literals, units}
+use Rattle.rh_goals.specs.Goals.{conclusion_goals, goals}
+use Rattle.rh_goals.specs.Hypotheses.{conclusion_clauses, hypotheses, own_clauses, side_literal, slot_literals, units}
 use Rattle.rh_meaning.specs.Literal.{TreeClause}
 use Rattle.rh_meaning.specs.Meaning.{fact_literals}
-use Rattle.rh_oblig.specs.Statement.{before, step_literals, store_after}
-use Rattle.rh_oblig.specs.Valid.{IsSound}
+use Rattle.rh_goals.specs.Statement.{before, step_literals, store_after}
+use Rattle.rh_goals.specs.Valid.{IsSound}
 use Rattle.rh_meaning.specs.Denotation.{denotation, are_true_in, is_true_in}
 use Rattle.rh_lift.specs.Standing.{fact_holds}
 use Rattle.rh_lift.proofs.Meanings.{fact_meant}

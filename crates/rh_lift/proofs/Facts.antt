@@ -42,7 +42,7 @@ use Rattle.rh_ground.specs.Match.{matches}
 use Rattle.rh_ground.specs.Rows.{premises_at}
 use Rattle.rh_ground.proofs.Fitting.{binding_fits, variable_inside}
 use Rattle.rh_ground.proofs.Matched.{matched_variable}
-use Rattle.rh_oblig.specs.Valid.{IsSound}
+use Rattle.rh_goals.specs.Valid.{IsSound}
 use Rattle.rh_term.specs.Store.{is_unheld, nothing, read, write}
 use Rattle.rh_lift.specs.Local.{CallsKeepFacts, EntriesHaveFacts, LeavesVariables, StepsKeepFacts}
 use Rattle.rh_lift.specs.Standing.{IsProvedSet, Stands, fact_holds}

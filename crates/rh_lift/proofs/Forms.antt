@@ -38,8 +38,8 @@ use Rattle.rh_ground.proofs.Matched.{matched, matched_operand, matched_variable}
 use Rattle.rh_term.specs.Model.{AStore, AValue, alike, is_number, value_of}
 use Rattle.rh_term.specs.Store.{nothing, read, write}
 use Rattle.rh_term.proofs.Stores.{SameReads, update-same}
-use Rattle.rh_oblig.specs.Hypotheses.{own_clauses, slot_literals}
-use Rattle.rh_oblig.specs.Statement.{store_after, value}
+use Rattle.rh_goals.specs.Hypotheses.{own_clauses, slot_literals}
+use Rattle.rh_goals.specs.Statement.{store_after, value}
 use Rattle.rh_meaning.specs.Denotation.{are_true_in, denotation, is_true_in}
 use Rattle.rh_lift.specs.Local.{stays}
 use Rattle.rh_lift.specs.Standing.{IsSafe}

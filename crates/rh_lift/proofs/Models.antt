@@ -23,7 +23,7 @@ use Rattle.rh_ground.specs.Template.{IsTame}
 use Rattle.rh_term.specs.Model.{Model, IsModel, AValue, AStore}
 use Rattle.rh_term.specs.Store.{nothing}
 use Rattle.rh_meaning.specs.Literal.{operand}
-use Rattle.rh_oblig.specs.Statement.{before, value}
+use Rattle.rh_goals.specs.Statement.{before, value}
 use Rattle.rh_meaning.specs.Tree.{Tree}
 use Rattle.rh_meaning.specs.Denotation.{denotation}
 use Rattle.rh_meaning.specs.Holds.{arg_value}

@@ -19,9 +19,9 @@ use Rattle.rh_ground.proofs.Members.{IsItem}
 use Rattle.rh_term.specs.Model.{Model, is_number}
 use Rattle.rh_term.specs.Store.{is_unheld, nothing, read, select}
 use Rattle.rh_term.proofs.Stores.{unheld-true, value_eq-same, value_eq-true}
-use Rattle.rh_oblig.specs.Hypotheses.{call_clauses_of, entry_clauses, is_var, local_clause, new_clauses, var_metas}
+use Rattle.rh_goals.specs.Hypotheses.{call_clauses_of, entry_clauses, is_var, local_clause, new_clauses, var_metas}
 use Rattle.rh_meaning.specs.Literal.{TreeClause, unheld_tree}
-use Rattle.rh_oblig.specs.Statement.{address}
+use Rattle.rh_goals.specs.Statement.{address}
 use Rattle.rh_meaning.specs.Tree.{Leaf}
 use Rattle.rh_meaning.specs.Denotation.{are_true_in, is_true_in}
 use Rattle.rh_term.specs.declared.term.Term.TheVariants.{Start}

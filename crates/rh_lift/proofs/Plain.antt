@@ -28,7 +28,7 @@ use Rattle.rh_term.specs.Model.{Model, AStore, is_number, value_of, store_of}
 use Rattle.rh_term.specs.Store.{write, select, update}
 use Rattle.rh_meaning.specs.Tree.{Tree}
 use Rattle.rh_meaning.specs.Denotation.{denotation, is_true_in}
-use Rattle.rh_oblig.specs.Statement.{value, operator_literals, step_literals, store_after}
+use Rattle.rh_goals.specs.Statement.{value, operator_literals, step_literals, store_after}
 use Rattle.rh_ground.specs.Template.{IsTame, IsPlain}
 use Rattle.rh_ground.proofs.Fitting.{variable_inside}
 use Rattle.rh_lift.specs.Standing.{IsSafe}

@@ -23,7 +23,7 @@ use Rattle.rh_rule.specs.Params.{kind_of}
 use Rattle.rh_domain.specs.Binding.{Binding, FitsKind, FitsBinding, arg_eq, arg_under, as_number, as_variable, bound}
 use Rattle.rh_ground.specs.Instance.{side_arg, side_holds}
 use Rattle.rh_term.specs.Model.{Model, AValue, alike, value_of}
-use Rattle.rh_oblig.specs.Hypotheses.{side_literal, side_operand, side_tree}
+use Rattle.rh_goals.specs.Hypotheses.{side_literal, side_operand, side_tree}
 use Rattle.rh_meaning.specs.Literal.{binding_tree}
 use Rattle.rh_meaning.specs.Denotation.{denotation, is_true_in}
 use Rattle.rh_meaning.proofs.ParamKinds.{constant_kind, variable_kind}

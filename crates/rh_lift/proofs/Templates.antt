@@ -23,10 +23,10 @@ use Rattle.rh_ground.specs.Template.{IsPlain, IsTame, IsTemplateOf}
 use Rattle.rh_ground.proofs.Matched.{matched, matched_variable}
 use Rattle.rh_term.specs.Model.{Model, AStore, AValue, alike, is_number, value_of}
 use Rattle.rh_term.proofs.Stores.{same_store-reads, value_eq-true}
-use Rattle.rh_oblig.specs.Goals.{conclusion_goals, template_goals}
-use Rattle.rh_oblig.specs.Hypotheses.{conclusion_clauses}
+use Rattle.rh_goals.specs.Goals.{conclusion_goals, template_goals}
+use Rattle.rh_goals.specs.Hypotheses.{conclusion_clauses}
 use Rattle.rh_meaning.specs.Literal.{equals}
-use Rattle.rh_oblig.specs.Statement.{address, step_literals, store_after, value}
+use Rattle.rh_goals.specs.Statement.{address, step_literals, store_after, value}
 use Rattle.rh_meaning.specs.Denotation.{are_true_in, denotation, is_true_in}
 use Rattle.rh_lift.specs.Standing.{IsSafe}
 use Rattle.rh_lift.proofs.Cells.{same_reads}

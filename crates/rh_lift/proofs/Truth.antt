@@ -7,8 +7,8 @@ use Rattle.std.proofs.lemmas.List.Folds.{list_all-append}
 use Rattle.rh_term.specs.Model.{Model, IsModel}
 use Rattle.rh_meaning.specs.Literal.{TreeLit, TreeClause}
 use Rattle.rh_meaning.specs.Denotation.{is_true_in, are_true_in}
-use Rattle.rh_oblig.specs.Hypotheses.{units}
-use Rattle.rh_oblig.specs.Valid.{IsValid}
+use Rattle.rh_goals.specs.Hypotheses.{units}
+use Rattle.rh_goals.specs.Valid.{IsValid}
 
 or_false : (a : Bool) → (a || false) ≡ a
 or_false true = refl

@@ -19,7 +19,7 @@ use Rattle.rh_domain.specs.declared.fact.GroundFact.{GroundFact}
 use Rattle.rh_ground.specs.Rows.{IsSupported}
 use Rattle.rh_il_step.specs.State.{IsHeld, cell}
 use Rattle.rh_meaning.specs.Holds.{holds_over}
-use Rattle.rh_oblig.specs.Valid.{IsSound}
+use Rattle.rh_goals.specs.Valid.{IsSound}
 
 -- the rules that are ruled admitted are sound
 abbrev pub AreSound : List Schema → List Rule → List Ruling → Type 0

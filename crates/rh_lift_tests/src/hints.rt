@@ -6,6 +6,7 @@ use crate::random::Random;
 use crate::rules::{grounded, rule_file};
 use rh_domain::FactAt;
 use rh_il::{Node, Program};
+use rh_rows::Ground;
 use rh_rule::{RuleFile, Ruling};
 use rh_sparse::Sparse;
 use rh_system::{Hints, System};
@@ -19,6 +20,14 @@ const SEED: u64 = 9;
 
 /// A node that an edge enters, and a word with a candidate on the edge.
 type Read = (u32, u32);
+
+/// The nodes that the edge of a candidate leaves and enters, and the candidate's word.
+#[derive(Clone, Copy)]
+struct Place {
+    source: u32,
+    node: u32,
+    word: u32,
+}
 
 /// A ruling on each rule, by which it is proved.
 fn all_admitted(alloc: Global, file: &RuleFile) -> Result<Vec<Ruling>, Fail> {
@@ -70,31 +79,103 @@ fn is_rising(numbers: &[u32]) -> bool {
     true
 }
 
-/// Asserts that the hints name the word of each candidate: the pairs of a node and a word that it reads, each once.
-fn reads_of(
-    rt: &(impl Alloc<A = Global> + Abort),
-    program: &Program,
-    sparse: &Sparse,
-) -> Result<Vec<Read>, Fail> {
-    let mut reads: Vec<Read> = Vec::new(rt.alloc());
-    for number in 0..sparse.count() {
-        let bit = sparse.bit_at(number).ok_or("a number without a candidate")?;
-        let at = sparse.facts().fact_of(bit).ok_or("a bit without a fact")?;
-        let word = u32::try_from(number / 64).map_err(|_| "too many words")?;
-        let node = node_entered(program, &at)?;
-        let source = node_left(program, &at);
-        assert!(rt; source < sparse.nodes());
-        assert!(rt; node < sparse.nodes());
-        assert!(rt; word < sparse.words());
-        let left = sparse.leaving(source);
-        assert!(rt; left.0 <= word && word < left.1);
-        assert!(rt; sparse.entering(node).contains(&word));
-        assert!(rt; sparse.readers(word).contains(&node));
-        if !reads.contains(&(node, word)) {
-            reads.push((node, word))?;
-        }
+/// The place of the candidate with a number.
+fn place_of(program: &Program, sparse: &Sparse, number: u64) -> Result<Place, Fail> {
+    let bit = sparse.bit_at(number).ok_or("a number without a candidate")?;
+    let word = u32::try_from(number / 64).ok().ok_or("too many words")?;
+    let at = sparse.facts().fact_of(bit).ok_or("a bit without a fact")?;
+    Ok(Place {
+        source: node_left(program, &at),
+        node: node_entered(program, &at)?,
+        word,
+    })
+}
+
+/// Whether the hints name the word at the nodes.
+fn is_named(sparse: &Sparse, place: Place) -> bool {
+    let Place { source, node, word } = place;
+    if source >= sparse.nodes() || node >= sparse.nodes() || word >= sparse.words() {
+        return false;
     }
-    Ok(reads)
+    let left = sparse.leaving(source);
+    left.0 <= word
+        && word < left.1
+        && sparse.entering(node).contains(&word)
+        && sparse.readers(word).contains(&node)
+}
+
+fn add(reads: &mut Vec<Read>, read: Read) -> Result<(), Fail> {
+    if !reads.contains(&read) {
+        reads.push(read)?;
+    }
+    Ok(())
+}
+
+/// How many pairs there are of a node and a word that it reads, each of which the hints name.
+fn count_reads(alloc: Global, program: &Program, sparse: &Sparse) -> Result<usize, Fail> {
+    let mut reads: Vec<Read> = Vec::new(alloc);
+    for number in 0..sparse.count() {
+        let place = place_of(program, sparse, number)?;
+        if !is_named(sparse, place) {
+            return Err("the hints do not name a word".into());
+        }
+        add(&mut reads, (place.node, place.word))?;
+    }
+    Ok(reads.len())
+}
+
+/// How many words all nodes read. None if the words of a node do not rise.
+fn all_entering(sparse: &Sparse) -> Option<usize> {
+    let mut count = 0usize;
+    for node in 0..sparse.nodes() {
+        let words = sparse.entering(node);
+        if !is_rising(words) {
+            return None;
+        }
+        count = count.wrapping_add(words.len());
+    }
+    Some(count)
+}
+
+/// How many readers all words have. None if those of a word do not rise.
+fn all_readers(sparse: &Sparse) -> Option<usize> {
+    let mut count = 0usize;
+    for word in 0..sparse.words() {
+        let nodes = sparse.readers(word);
+        if !is_rising(nodes) {
+            return None;
+        }
+        count = count.wrapping_add(nodes.len());
+    }
+    Some(count)
+}
+
+/// Whether the hints name the words of the candidates, and no others.
+fn are_exact(alloc: Global, program: &Program, sparse: &Sparse) -> Result<bool, Fail> {
+    let reads = count_reads(alloc, program, sparse)?;
+    Ok(
+        sparse.nodes() == nodes_before(program, program.count())
+            && all_entering(sparse) == Some(reads)
+            && all_readers(sparse) == Some(reads),
+    )
+}
+
+/// The same of the hints of a program's facts.
+fn look(alloc: Global, program: &Program, ground: &Ground) -> Result<bool, Fail> {
+    let sparse = Sparse::new(alloc, ground)?;
+    are_exact(alloc, program, &sparse)
+}
+
+/// The same of a random program, under these rulings.
+fn look_at_one(
+    rt: &(impl Alloc<A = Global> + Abort),
+    file: &RuleFile,
+    rulings: &[Ruling],
+    random: &mut Random,
+) -> Result<bool, Fail> {
+    let program = random_program(rt, random)?;
+    let ground = grounded(rt, file, rulings, &program)?;
+    look(rt.alloc(), &program, &ground)
 }
 
 #[test]
@@ -103,35 +184,8 @@ fn hints_name_the_words_of_candidates(rt: HostRuntime) -> Result<(), Fail> {
     let rulings = all_admitted(rt.alloc(), &file)?;
     let mut random = Random::new(SEED);
     for _ in 0..PROGRAMS {
-        let program = random_program(&rt, &mut random)?;
-        let ground = grounded(&rt, &file, rulings.as_slice(), &program)?;
-        let sparse = Sparse::new(rt.alloc(), &ground)?;
-        let reads = reads_of(&rt, &program, &sparse)?;
-        assert_eq!(rt; sparse.nodes(), nodes_before(&program, program.count()));
-        assert_eq!(rt; all_entering(&rt, &sparse), reads.len());
-        assert_eq!(rt; all_readers(&rt, &sparse), reads.len());
+        let is_exact = look_at_one(&rt, &file, rulings.as_slice(), &mut random)?;
+        assert!(rt; is_exact);
     }
     Ok(())
-}
-
-/// How many words all nodes read. The words of each node rise.
-fn all_entering(rt: &impl Abort, sparse: &Sparse) -> usize {
-    let mut count = 0usize;
-    for node in 0..sparse.nodes() {
-        let words = sparse.entering(node);
-        assert!(rt; is_rising(words));
-        count = count.wrapping_add(words.len());
-    }
-    count
-}
-
-/// How many readers all words have. Those of each word rise.
-fn all_readers(rt: &impl Abort, sparse: &Sparse) -> usize {
-    let mut count = 0usize;
-    for word in 0..sparse.words() {
-        let nodes = sparse.readers(word);
-        assert!(rt; is_rising(nodes));
-        count = count.wrapping_add(nodes.len());
-    }
-    count
 }

@@ -137,6 +137,5 @@ pub fn random_program(
     let other = procedure(rt.alloc(), b"f", 1, random)?;
     let procs = vec![in rt.alloc(); main, other]?;
     assert!(rt; are_proper(procs.as_slice()));
-    let program = Program::new(procs).map_err(|_| "no program")?;
-    Ok(program)
+    Ok(Program::new(procs).ok().ok_or("no program")?)
 }

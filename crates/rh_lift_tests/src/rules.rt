@@ -34,8 +34,7 @@ rule pts_any(var P, var X, var Z) { Z := _ when pts(P, X) @ in, P != Z => pts(P,
 
 /// The rule file.
 pub fn rule_file(alloc: Global) -> Result<RuleFile, Fail> {
-    let file = read_rules(alloc, RULES).map_err(|_| "no rule file")?;
-    Ok(file)
+    Ok(read_rules(alloc, RULES).ok().ok_or("no rule file")?)
 }
 
 /// The facts of a program, by their bits.
@@ -46,6 +45,6 @@ pub fn grounded(
     program: &Program,
 ) -> Result<Ground, Fail> {
     assert!(rt; file.rules().len() == rulings.len());
-    let ground = Ground::new(rt.alloc(), file, rulings, program).map_err(|_| "too many facts")?;
-    Ok(ground)
+    let ground = Ground::new(rt.alloc(), file, rulings, program);
+    Ok(ground.ok().ok_or("too many facts")?)
 }

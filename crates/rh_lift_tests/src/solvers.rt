@@ -3,7 +3,7 @@
 use crate::programs::random_program;
 use crate::random::Random;
 use crate::rules::{grounded, rule_file};
-use rh_engine::{solve, solve_hinted};
+use rh_engine::{Solved, solve, solve_hinted};
 use rh_outside::OpenGate;
 use rh_rows::Ground;
 use rh_rule::{RuleFile, Ruling};
@@ -45,8 +45,33 @@ struct Tally {
     cleared: u64,
 }
 
-/// Asserts that workers by hints, on the bits that have rows, find these words: how many bits they clear.
-fn find_by_hints(
+impl Tally {
+    const NONE: Tally = Tally {
+        facts: 0,
+        cleared: 0,
+    };
+
+    fn plus(self, other: Tally) -> Tally {
+        Tally {
+            facts: self.facts.wrapping_add(other.facts),
+            cleared: self.cleared.wrapping_add(other.cleared),
+        }
+    }
+}
+
+/// What workers find on all bits.
+fn on_all_bits(
+    rt: &(impl Alloc<A = Global> + Abort + Threads + Sync),
+    ground: &Ground,
+    workers: u32,
+) -> Result<Solved, Fail> {
+    assert!(rt; workers > 0);
+    assert!(rt; workers <= 16);
+    Ok(solve(rt, rt.alloc(), ground, workers, &OpenGate)?)
+}
+
+/// How many bits workers by hints clear on the bits that have rows, where they find these words.
+fn cleared_by_hints(
     rt: &(impl Alloc<A = Global> + Abort + Threads + Sync),
     sparse: &Sparse,
     workers: u32,
@@ -56,28 +81,51 @@ fn find_by_hints(
     assert!(rt; workers <= 16);
     let hinted = solve_hinted(rt, rt.alloc(), sparse, workers, &OpenGate)?;
     let expanded = sparse.expand(rt.alloc(), hinted.words.as_slice())?;
-    assert_eq!(rt; expanded.as_slice(), words);
-    Ok(hinted.cleared)
+    if expanded.as_slice() == words {
+        Ok(hinted.cleared)
+    } else {
+        Err("other words by hints".into())
+    }
 }
 
-/// Asserts that workers find the same set on all bits and, by hints, on those that have rows.
-fn compare(
+/// Finds these words by hints, with each number of workers.
+fn find_by_hints(
     rt: &(impl Alloc<A = Global> + Abort + Threads + Sync),
     ground: &Ground,
-    workers: u32,
+    words: &[u64],
 ) -> Result<Tally, Fail> {
-    assert!(rt; workers > 0);
-    assert!(rt; workers <= 16);
-    let whole = solve(rt, rt.alloc(), ground, workers, &OpenGate)?;
     let sparse = Sparse::new(rt.alloc(), ground)?;
     let mut cleared = 0;
-    for hinted in WORKERS {
-        cleared = find_by_hints(rt, &sparse, hinted, whole.words.as_slice())?;
+    for workers in WORKERS {
+        cleared = cleared_by_hints(rt, &sparse, workers, words)?;
     }
     Ok(Tally {
         facts: sparse.count().wrapping_sub(cleared),
         cleared,
     })
+}
+
+/// The facts of a random program under random rulings.
+fn random_facts(
+    rt: &(impl Alloc<A = Global> + Abort),
+    file: &RuleFile,
+    random: &mut Random,
+) -> Result<Ground, Fail> {
+    let program = random_program(rt, random)?;
+    let rulings = random_rulings(rt.alloc(), file, random)?;
+    grounded(rt, file, rulings.as_slice(), &program)
+}
+
+/// Workers find the same set on all bits of a random program and, by hints, on those that have rows.
+fn compare(
+    rt: &(impl Alloc<A = Global> + Abort + Threads + Sync),
+    file: &RuleFile,
+    random: &mut Random,
+    workers: u32,
+) -> Result<Tally, Fail> {
+    let ground = random_facts(rt, file, random)?;
+    let whole = on_all_bits(rt, &ground, workers)?;
+    find_by_hints(rt, &ground, whole.words.as_slice())
 }
 
 #[test]
@@ -86,19 +134,13 @@ fn workers_find_the_same_on_all_bits_and_on_those_that_have_rows(
 ) -> Result<(), Fail> {
     let file = rule_file(rt.alloc())?;
     let mut random = Random::new(SEED);
-    let mut facts = 0u64;
-    let mut cleared = 0u64;
+    let mut tally = Tally::NONE;
     for workers in WORKERS {
         for _ in 0..PROGRAMS {
-            let program = random_program(&rt, &mut random)?;
-            let rulings = random_rulings(rt.alloc(), &file, &mut random)?;
-            let ground = grounded(&rt, &file, rulings.as_slice(), &program)?;
-            let tally = compare(&rt, &ground, workers)?;
-            facts = facts.wrapping_add(tally.facts);
-            cleared = cleared.wrapping_add(tally.cleared);
+            tally = tally.plus(compare(&rt, &file, &mut random, workers)?);
         }
     }
-    assert!(rt; facts > 500, "{facts} facts");
-    assert!(rt; cleared > 500, "{cleared} cleared");
+    assert!(rt; tally.facts > 500);
+    assert!(rt; tally.cleared > 500);
     Ok(())
 }

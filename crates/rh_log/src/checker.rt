@@ -51,12 +51,12 @@ fn follow(
     let Some(classes) = branches.pop_front() else {
         return Ok(false);
     };
-    let Some(clause) = obligation.clauses.as_slice().get(node.clause as usize) else {
+    let Some(clause) = obligation.clauses.copy_at(alloc, node.clause as usize)? else {
         return Ok(false);
     };
-    if is_true(classes.labels(), clause) || width(clause) != node.children as usize {
+    if is_true(classes.labels(), &clause) || width(&clause) != node.children as usize {
         return Ok(false);
     }
-    expand(alloc, &obligation.terms, &classes, clause, branches)?;
+    expand(alloc, &obligation.terms, &classes, &clause, branches)?;
     Ok(true)
 }

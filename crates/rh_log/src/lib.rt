@@ -17,4 +17,4 @@ pub use checker::{check, root};
 pub use log::{Admission, Log, LogNode};
 pub use open::is_open;
 pub use threads::cross;
-pub use truth::{is_true, width};
+pub use truth::{is_computed, is_true, width};

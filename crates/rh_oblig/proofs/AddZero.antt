@@ -9,8 +9,8 @@ use Rattle.rh_rule.specs.declared.schema.Kind.TheVariants.{Var}
 use Rattle.rh_term.specs.declared.term.Term.{Term}
 use Rattle.rh_term.specs.declared.term.Term.TheVariants.{Num, Addr, Before, Sel, Upd, Op, Kind, IsNum, IsPtr, Yes}
 use Rattle.rh_meaning.specs.Literal.{TreeLit}
-use Rattle.rh_oblig.specs.Hypotheses.{hypotheses}
-use Rattle.rh_oblig.specs.Goals.{goals}
+use Rattle.rh_goals.specs.Hypotheses.{hypotheses}
+use Rattle.rh_goals.specs.Goals.{goals}
 use Rattle.rh_oblig.specs.TermList.{term_list}
 
 abbrev add_zero : Rule

@@ -23,7 +23,7 @@ use Rattle.rh_meaning.specs.Sorts.{IsIn, IsSorted}
 use Rattle.rh_meaning.proofs.Trees.{stays_in}
 use Rattle.rh_meaning.proofs.Denotes.{Stands, clauses_denote, clauses_within, lit_denotes, lit_within, sorted_bare}
 use Rattle.rh_oblig.specs.TermList.{closed, first_trees, leaves_of, with_trees, term_list}
-use Rattle.rh_oblig.specs.Valid.{IsValid}
+use Rattle.rh_goals.specs.Valid.{IsValid}
 use Rattle.rh_oblig.proofs.Walks.{with_trees_has, closed_extends}
 
 -- axioms over a list of terms: within the list, and true in every model

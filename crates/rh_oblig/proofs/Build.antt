@@ -17,8 +17,8 @@ use Rattle.rh_meaning.specs.Tree.{Tree, Leaf, with_term, with_tree}
 use Rattle.rh_meaning.specs.View.{clauses_of, lit_of, lits_of}
 use Rattle.rh_meaning.proofs.Sorted.{leaf_parts}
 use Rattle.rh_oblig.specs.TermList.{AreFit, with_trees}
-use Rattle.rh_oblig.specs.Few.{trees_size}
-use Rattle.rh_oblig.proofs.RuleTrees.{IsSortedLeaf}
+use Rattle.rh_goals.specs.Few.{trees_size}
+use Rattle.rh_oblig.proofs.Leaves.{IsSortedLeaf}
 
 pub with_trees_both : (terms : List Term) (a b : List Tree) → with_trees terms (a ++ b) ≡ with_trees (with_trees terms a) b
 with_trees_both terms [] b = refl

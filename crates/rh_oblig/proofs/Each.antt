@@ -16,7 +16,7 @@ use Rattle.rh_term.specs.declared.clause.Clause.{Clause}
 use Rattle.rh_meaning.specs.declared.literal.TreeLit.{TreeLit as BuiltLit}
 use Rattle.rh_meaning.specs.Literal.{TreeLit, TreeClause}
 use Rattle.rh_meaning.specs.View.{lit_of, lits_of}
-use Rattle.rh_oblig.specs.Hypotheses.{hypotheses}
+use Rattle.rh_goals.specs.Hypotheses.{hypotheses}
 use Rattle.rh_oblig.specs.Obligation.{clauses_for, first_excess, obligation_clauses, terms_of}
 use Rattle.rh_oblig.specs.TermList.{term_list}
 

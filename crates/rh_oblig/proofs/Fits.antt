@@ -8,7 +8,7 @@ use Rattle.rh_meaning.specs.Sorts.{IsSorted}
 use Rattle.rh_oblig.specs.Obligation.{obligation_clauses}
 use Rattle.rh_oblig.specs.TermList.{term_list}
 use Rattle.rh_oblig.proofs.Bridge.{obligation_within}
-use Rattle.rh_oblig.proofs.RuleTrees.{trees_sorted}
+use Rattle.rh_oblig.proofs.Leaves.{trees_sorted}
 use Rattle.rh_rule.specs.declared.rule.Form.{Form}
 use Rattle.rh_rule.specs.declared.schema.Param.{Param}
 use Rattle.rh_term.specs.declared.term.Term.{Term}

@@ -3,11 +3,10 @@ pub mod Walks
 pub mod Kept
 pub mod Walked
 pub mod Bridge
-pub mod RuleTrees
+pub mod Leaves
 pub mod Sound
 pub mod Build
 pub mod Each
 pub mod Fits
 pub mod Sizes
-pub mod TreeSizes
 pub mod Room

@@ -8,11 +8,11 @@ use Rattle.rh_term.specs.declared.term.Term.{Term}
 use Rattle.rh_meaning.specs.Literal.{TreeLit, TreeClause, clause_trees, literal_trees}
 use Rattle.rh_meaning.specs.Sorts.{IsSorted, tree_size}
 use Rattle.rh_meaning.specs.Tree.{Tree, Leaf}
-use Rattle.rh_oblig.specs.Few.{trees_size}
+use Rattle.rh_goals.specs.Few.{trees_size}
 use Rattle.rh_oblig.specs.TermList.{closed, first_trees, leaves_of, with_trees}
 use Rattle.rh_oblig.proofs.Build.{with_trees_both, with_trees_few}
 use Rattle.rh_oblig.proofs.Kept.{kept_trees, none_kept}
-use Rattle.rh_oblig.proofs.RuleTrees.{trees_sorted}
+use Rattle.rh_oblig.proofs.Leaves.{trees_sorted}
 use Rattle.rh_oblig.proofs.Walked.{IsWalked, closed_walked}
 
 module _ (params : List Param) (pattern : Form) (hypotheses : List TreeClause) (goal : TreeLit) where

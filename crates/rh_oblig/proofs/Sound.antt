@@ -15,15 +15,16 @@ use Rattle.rh_term.specs.Term.{IsTermList}
 use Rattle.rh_meaning.specs.Literal.{TreeLit, literal_trees}
 use Rattle.rh_meaning.specs.Sorts.{IsSorted}
 use Rattle.rh_meaning.specs.Tree.{Tree}
-use Rattle.rh_oblig.specs.Goals.{goals}
-use Rattle.rh_oblig.specs.Hypotheses.{hypotheses}
+use Rattle.rh_goals.specs.Goals.{goals}
+use Rattle.rh_goals.specs.Hypotheses.{hypotheses}
 use Rattle.rh_oblig.specs.Laws.{AdmittedAreSound, ShownAreValid, TermListsAreClosed}
 use Rattle.rh_oblig.specs.Obligation.{IsShown, terms_of}
 use Rattle.rh_oblig.specs.TermList.{IsClosed, first_trees, with_trees}
-use Rattle.rh_oblig.specs.Valid.{IsValid}
+use Rattle.rh_goals.specs.Valid.{IsValid}
 use Rattle.rh_oblig.proofs.Bridge.{AreAxioms, valid}
 use Rattle.rh_oblig.proofs.Kept.{kept_trees, none_kept}
-use Rattle.rh_oblig.proofs.RuleTrees.{first_trees_sorted, goals_sorted}
+use Rattle.rh_goals.proofs.RuleTrees.{goals_sorted}
+use Rattle.rh_oblig.proofs.Leaves.{first_trees_sorted}
 use Rattle.rh_oblig.proofs.Walked.{IsWalked, closed_walked}
 
 -- the instances of the clause schemas are axioms over a list of terms

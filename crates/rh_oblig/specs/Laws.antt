@@ -5,11 +5,11 @@ use Rattle.rh_rule.specs.RuleFiles.{IsRuleOf}
 use Rattle.rh_rule.specs.declared.rule.Rule.{Rule}
 use Rattle.rh_rule.specs.declared.schema.Schema.{Schema}
 use Rattle.rh_term.specs.Term.{IsTermList}
-use Rattle.rh_oblig.specs.Goals.{goals}
-use Rattle.rh_oblig.specs.Hypotheses.{hypotheses}
+use Rattle.rh_goals.specs.Goals.{goals}
+use Rattle.rh_goals.specs.Hypotheses.{hypotheses}
 use Rattle.rh_oblig.specs.Obligation.{IsAdmitted, IsShown, terms_of}
 use Rattle.rh_oblig.specs.TermList.{IsClosed}
-use Rattle.rh_oblig.specs.Valid.{IsSound, IsValid}
+use Rattle.rh_goals.specs.Valid.{IsSound, IsValid}
 
 -- each obligation of a rule of a rule file that has no open partition holds
 abbrev pub ShownAreValid : Type 0

@@ -1,9 +1,4 @@
-pub mod Statement
-pub mod Hypotheses
-pub mod Goals
 pub mod TermList
-pub mod Few
 pub mod Obligation
-pub mod Valid
 pub mod Laws
 pub mod Ruling

@@ -11,8 +11,8 @@ use Rattle.rh_term.specs.Laws.{denial}
 use Rattle.rh_term.specs.Partition.{HasNoOpenPartition}
 use Rattle.rh_meaning.specs.Literal.{TreeLit, TreeClause}
 use Rattle.rh_meaning.specs.Placed.{clauses_in, lit_in}
-use Rattle.rh_oblig.specs.Goals.{goals}
-use Rattle.rh_oblig.specs.Hypotheses.{hypotheses}
+use Rattle.rh_goals.specs.Goals.{goals}
+use Rattle.rh_goals.specs.Hypotheses.{hypotheses}
 use Rattle.rh_oblig.specs.TermList.{term_list}
 
 -- what an obligation over a list of terms takes for granted: the hypotheses, and all instances of the

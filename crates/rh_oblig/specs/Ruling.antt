@@ -6,7 +6,7 @@ use Rattle.rh_rule.specs.declared.rule.Ruling.TheVariants.{Admitted, Refused}
 use Rattle.rh_rule.specs.declared.schema.Schema.{Schema}
 use Rattle.rh_term.specs.Partition.{IsOpen}
 use Rattle.rh_meaning.specs.Literal.{TreeLit}
-use Rattle.rh_oblig.specs.Goals.{goals}
+use Rattle.rh_goals.specs.Goals.{goals}
 use Rattle.rh_oblig.specs.Obligation.{IsAdmitted, IsShown, clauses_for, terms_of}
 
 -- the obligation of a goal has an open partition

@@ -2,12 +2,8 @@
 #![tactic(auto)]
 
 mod closing;
-mod goals;
-mod hypotheses;
 mod laws;
 mod obligation;
-mod own;
-mod statement;
 mod term_list;
 
 pub use laws::{admitted_rules_are_sound, shown_obligations_hold, term_lists_are_closed};

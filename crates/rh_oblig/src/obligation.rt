@@ -8,16 +8,15 @@ ghost use Rattle.rh_meaning.specs.Sorts.{IsIn, IsSorted};
 ghost use Rattle.rh_meaning.specs.Literal.{clause_trees, literal_trees};
 ghost use Rattle.rh_meaning.specs.View.{clauses_of, lit_of, lits_of};
 ghost use Rattle.rh_oblig.specs.Obligation.{IsSmall, excess, obligation_clauses, obligations_of, parts_of};
-ghost use Rattle.rh_oblig.specs.Few.{AreFewClauses, trees_size};
+ghost use Rattle.rh_goals.specs.Few.{AreFewClauses, trees_size};
 ghost use Rattle.rh_oblig.specs.TermList.{first_trees, term_list};
 
-use crate::goals::goals;
-use crate::hypotheses::hypotheses;
 use crate::term_list::term_list;
-use rh_axioms::{instances, standard};
+use rh_axioms::{add_instances, standard};
+use rh_goals::{goals, hypotheses};
 use rh_meaning::{TreeClause, TreeLit, tree_place};
 use rh_rule::{Rule, RuleFile, Schema};
-use rh_term::{Clause, Lit, Obligation, Terms};
+use rh_term::{Clause, Clauses, Lit, Obligation, Terms};
 use std::alloc::{AllocError, AllocFailed, Global};
 use thiserror::Error;
 
@@ -114,10 +113,7 @@ fn obligation(
         return Err(ObligFault::TooManyTerms(u64::from(count)));
     }
     let clauses = clauses(alloc, &terms, taken, goal)?;
-    match Obligation::of(terms, clauses.into()) {
-        Some(obligation) => Ok(obligation),
-        None => unreachable!(),
-    }
+    Ok(Obligation { terms, clauses })
 }
 
 /// The clauses of the hypotheses, the instances of the clause schemas, and the denied goal.
@@ -126,15 +122,13 @@ fn clauses(
     terms: &Terms,
     taken: &[TreeClause],
     goal: &TreeLit,
-) -> Result<Vec<Clause>, AllocError>
+) -> Result<Clauses, AllocError>
     requires taken { AllByRecursion (IsIn terms.now) (flat_map clause_trees (clauses_of taken.now)) }
     requires goal { AllByRecursion (IsIn terms.now) (literal_trees (lit_of goal.now)) }
-    ensures { IfOk result (λ clauses. clauses.items ≡ obligation_clauses terms.now (clauses_of taken.now) (lit_of goal.now)) }
+    ensures { IfOk result (λ clauses. clauses ≡ obligation_clauses terms.now (clauses_of taken.now) (lit_of goal.now)) }
 {
-    let mut clauses = clauses_in(alloc, terms, taken)?;
-    for clause in instances(alloc, &standard(), terms)? {
-        clauses.push(clause)?;
-    }
+    let mut clauses = Clauses::of(alloc, clauses_in(alloc, terms, taken)?);
+    add_instances(alloc, &standard(), terms, &mut clauses)?;
     clauses.push(denial(alloc, lit_in(terms, goal))?)?;
     Ok(clauses)
 }

@@ -6,7 +6,7 @@ ghost use Rattle.rh_meaning.specs.Sorts.{IsSorted};
 ghost use Rattle.rh_meaning.specs.Literal.{clause_trees, literal_trees};
 ghost use Rattle.rh_meaning.specs.Tree.{Leaf};
 ghost use Rattle.rh_meaning.specs.View.{clauses_of, lit_of, lits_of};
-ghost use Rattle.rh_oblig.specs.Few.{trees_size};
+ghost use Rattle.rh_goals.specs.Few.{trees_size};
 ghost use Rattle.rh_oblig.specs.TermList.{binding_leaf, first_leaf, first_trees, leaves_of, term_list, with_trees};
 
 use crate::closing::{add_all, close};

@@ -18,6 +18,3 @@ pub use shelf::{Failed, Shelf};
 pub use sink::Sink;
 pub use system::{FileShelf, StdSink};
 pub use transfer::{ReadError, read_whole, write_whole};
-
-#[cfg(test)]
-mod tests;

@@ -78,23 +78,30 @@ fn fact(alloc: Global, used: (u32, [RuleBase; 2])) -> Result<FactUse, Fail> {
     Ok(FactUse { schema, args })
 }
 
-fn rule(rt: &(impl Alloc<A = Global> + Abort), draft: Draft) -> Result<Rule, Fail> {
-    let mut premises = Items::new(rt.alloc());
-    premises.push(fact(rt.alloc(), draft.premise)?)?;
-    let conclusion = match draft.template {
-        Some(template) => Conclusion::Transform(template),
-        None => Conclusion::Fact {
-            fact: fact(rt.alloc(), (0, [X, C]))?,
+fn premises(alloc: Global, draft: Draft) -> Result<Items<FactUse>, Fail> {
+    let used = fact(alloc, draft.premise)?;
+    Ok(Items::from(vec![in alloc; used]?))
+}
+
+fn conclusion(alloc: Global, draft: Draft) -> Result<Conclusion, Fail> {
+    match draft.template {
+        Some(template) => Ok(Conclusion::Transform(template)),
+        None => Ok(Conclusion::Fact {
+            fact: fact(alloc, (0, [X, C]))?,
             slot: Slot::Out,
-        },
-    };
+        }),
+    }
+}
+
+fn rule(rt: &(impl Alloc<A = Global> + Abort), draft: Draft) -> Result<Rule, Fail> {
+    let name = name(rt, b"q");
     Ok(Rule {
-        name: name(rt, b"q"),
+        name,
         params: params(rt)?,
         pattern: draft.pattern,
-        premises,
+        premises: premises(rt.alloc(), draft)?,
         sides: items(rt.alloc(), &[Side::Same(draft.side, SideTerm::Plain(C))])?,
-        conclusion,
+        conclusion: conclusion(rt.alloc(), draft)?,
     })
 }
 
@@ -105,6 +112,16 @@ fn file(rt: &impl Abort, schemas: Vec<Schema>, rules: Vec<Rule>) -> Result<RuleF
 
 fn wrong(kind: RuleWrong, item: Item) -> Option<RuleFault> {
     Some(RuleFault::Wrong { kind, item })
+}
+
+/// The fault of a file of one fact and one rule.
+fn fault_of(
+    rt: &(impl Alloc<A = Global> + Abort),
+    draft: Draft,
+) -> Result<Option<RuleFault>, Fail> {
+    let schemas = vec![in rt.alloc(); con(rt)?]?;
+    let rules = vec![in rt.alloc(); rule(rt, draft)?]?;
+    Ok(file(rt, schemas, rules).err())
 }
 
 #[test]
@@ -175,10 +192,8 @@ fn rules_that_no_text_spells(rt: HostRuntime) -> Result<(), Fail> {
         ),
     ];
     for (draft, want) in cases {
-        let schemas = vec![in rt.alloc(); con(&rt)?]?;
-        let rules = vec![in rt.alloc(); rule(&rt, draft)?]?;
-        let fault = file(&rt, schemas, rules).err();
-        assert_eq!(rt; fault, want.and_then(|kind| wrong(kind, Item::Rule(0))));
+        let fault = fault_of(&rt, draft)?;
+        assert!(rt; fault == want.and_then(|kind| wrong(kind, Item::Rule(0))));
     }
     Ok(())
 }
@@ -213,7 +228,7 @@ fn of_two_faults_the_first(rt: HostRuntime) -> Result<(), Fail> {
         (0, 0, None),
     ];
     for (schemas, rules, want) in cases {
-        assert_eq!(rt; equal_items(&rt, schemas, rules)?, want);
+        assert!(rt; equal_items(&rt, schemas, rules)? == want);
     }
     Ok(())
 }

@@ -3,10 +3,10 @@
 use rh_admit::admit;
 use rh_il::{Name, Op};
 use rh_list::Items;
-use rh_log::{Admission, is_open};
+use rh_log::{Admission, LogNode, is_open};
 use rh_oblig::obligations;
 use rh_rule::{Conclusion, Form, Kind, Param, Rule, RuleBase, RuleFile, Schema, are_proper};
-use rh_term::{Clause, Obligation, Term};
+use rh_term::{Clause, Clauses, Obligation, Term};
 use std::alloc::Global;
 use std::process::Abort;
 use std::test::Fail;
@@ -15,20 +15,25 @@ fn name(bytes: &[u8]) -> Result<Name, Fail> {
     Ok(Name::of(bytes).ok_or("no name")?)
 }
 
+fn param(spelled: &[u8]) -> Result<Param, Fail> {
+    Ok(Param {
+        name: name(spelled)?,
+        kind: Kind::Var,
+    })
+}
+
+/// `var X, var A`
+fn params(alloc: Global) -> Result<Items<Param>, Fail> {
+    let (x, a) = (param(b"X")?, param(b"A")?);
+    Ok(Items::from(vec![in alloc; x, a]?))
+}
+
 // X := A + 0 becomes another statement
 fn add_zero(alloc: Global, spelled: &[u8], template: Form) -> Result<Rule, Fail> {
-    let mut params = Items::new(alloc);
-    params.push(Param {
-        name: name(b"X")?,
-        kind: Kind::Var,
-    })?;
-    params.push(Param {
-        name: name(b"A")?,
-        kind: Kind::Var,
-    })?;
+    let name = name(spelled)?;
     Ok(Rule {
-        name: name(spelled)?,
-        params,
+        name,
+        params: params(alloc)?,
         pattern: Form::Compute {
             to: 0,
             op: Op::Add,
@@ -82,8 +87,7 @@ fn file(rt: &(impl Alloc<A = Global> + Abort)) -> Result<RuleFile, Fail> {
     let rules = vec![in rt.alloc(); drops_value(rt.alloc())?, keeps_value(rt.alloc())?]?;
     let schemas: Vec<Schema> = Vec::new(rt.alloc());
     assert!(rt; are_proper(schemas.as_slice(), rules.as_slice()));
-    let file = RuleFile::new(schemas, rules).map_err(|_| "no rule file")?;
-    Ok(file)
+    Ok(RuleFile::new(schemas, rules).ok().ok_or("no rule file")?)
 }
 
 /// The obligations of a rule of the file.
@@ -151,52 +155,86 @@ const NODES: [(u32, u32); 8] = [
     (16, 0),
 ];
 
+fn are_as_worked(alloc: Global, clauses: &Clauses) -> Result<bool, Fail> {
+    for (number, want) in CLAUSES.iter().enumerate() {
+        let Some(clause) = clauses.copy_at(alloc, number)? else {
+            return Ok(false);
+        };
+        let text = clause_text(alloc, &clause)?;
+        if text.as_str() != *want {
+            return Ok(false);
+        }
+    }
+    Ok(clauses.copy_at(alloc, CLAUSES.len())?.is_none())
+}
+
 #[test]
 fn an_obligation_is_as_worked_by_hand(rt: HostRuntime) -> Result<(), Fail> {
     let made = obligations_of(&rt, &file(&rt)?, 1)?;
     let [obligation] = made.as_slice() else {
         return Err("not one obligation".into());
     };
-    assert_eq!(rt; obligation.terms.as_slice(), TERMS.as_slice());
-    let clauses = obligation.clauses.as_slice();
-    assert_eq!(rt; clauses.len(), CLAUSES.len());
-    for (clause, text) in clauses.iter().zip(CLAUSES) {
-        assert_eq!(rt; clause_text(rt.alloc(), clause)?.as_str(), text);
-    }
+    assert!(rt; obligation.terms.as_slice() == TERMS.as_slice());
+    assert!(rt; are_as_worked(rt.alloc(), &obligation.clauses)?);
     Ok(())
+}
+
+/// Whether the labels are open in the first obligation of the first rule.
+fn are_open(
+    rt: &(impl Alloc<A = Global> + Abort),
+    file: &RuleFile,
+    labels: &[u32],
+) -> Result<bool, Fail> {
+    let made = obligations_of(rt, file, 0)?;
+    match made.first() {
+        Some(first) => Ok(is_open(first, labels)),
+        None => Ok(false),
+    }
+}
+
+/// Whether the first rule is refused at its first obligation, with open labels.
+fn is_refused(
+    rt: &(impl Alloc<A = Global> + Abort),
+    file: &RuleFile,
+    admission: &Admission,
+) -> Result<bool, Fail> {
+    match admission {
+        Admission::Refused {
+            obligation: 0,
+            classes,
+        } => are_open(rt, file, classes.as_slice()),
+        _ => Ok(false),
+    }
+}
+
+fn are_worked_nodes(nodes: &[LogNode]) -> bool {
+    for (node, (clause, children)) in nodes.iter().zip(NODES) {
+        if node.clause != clause || node.children != children {
+            return false;
+        }
+    }
+    nodes.len() == NODES.len()
+}
+
+/// Whether a rule is admitted with the one log.
+fn is_admitted(admission: &Admission) -> bool {
+    let Admission::Admitted(logs) = admission else {
+        return false;
+    };
+    match logs.as_slice() {
+        [log] => are_worked_nodes(log.nodes.as_slice()),
+        _ => false,
+    }
 }
 
 #[test]
 fn one_rule_is_refused_and_one_admitted(rt: HostRuntime) -> Result<(), Fail> {
     let file = file(&rt)?;
     let made = admit(&rt, rt.alloc(), &file)?;
-    let [refused, admitted] = made.as_slice() else {
+    let [first, second] = made.as_slice() else {
         return Err("not two rulings".into());
     };
-    match refused {
-        Admission::Admitted(_) => return Err("admitted".into()),
-        Admission::Refused {
-            obligation,
-            classes,
-        } => {
-            assert_eq!(rt; *obligation, 0);
-            let of_refused = obligations_of(&rt, &file, 0)?;
-            let first = of_refused.first().ok_or("no obligation")?;
-            assert!(rt; is_open(first, classes.as_slice()));
-        }
-    }
-    match admitted {
-        Admission::Refused { .. } => return Err("refused".into()),
-        Admission::Admitted(logs) => {
-            assert_eq!(rt; logs.len(), 1);
-            for log in logs.as_slice() {
-                assert_eq!(rt; log.nodes.len(), NODES.len());
-                for (node, (clause, children)) in log.nodes.as_slice().iter().zip(NODES) {
-                    assert_eq!(rt; node.clause, clause);
-                    assert_eq!(rt; node.children, children);
-                }
-            }
-        }
-    }
+    assert!(rt; is_refused(&rt, &file, first)?);
+    assert!(rt; is_admitted(second));
     Ok(())
 }

@@ -5,3 +5,4 @@ pub mod Spreading
 pub mod Counted
 pub mod Runs
 pub mod Expanded
+pub mod Uniting

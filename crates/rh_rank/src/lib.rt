@@ -2,6 +2,8 @@
 #![tactic(auto)]
 
 mod numbering;
+mod union;
 mod word;
 
 pub use numbering::Numbering;
+pub use union::united;

@@ -1,5 +1,5 @@
 pub mod Choosing
+pub mod Adding
 pub mod Searching
 pub mod Weight
 pub mod Fixed
-pub mod Denying

@@ -1,5 +1,5 @@
 -- The choice of the search, and what it finds.
-use Rattle.std.specs.Prelude.{◌≡◌, ℕ, ◌<◌, ◌≤◌, ◌^◌, List, [], ◌∷◌, ◌++◌, length, slice_get, slice_index}
+use Rattle.std.specs.Prelude.{◌≡◌, ℕ, ◌+◌, ◌<◌, ◌≤◌, ◌^◌, nat_lt, if◌then◌else◌, List, [], ◌∷◌, ◌++◌, Option, Some, None, length, slice_get}
 use Rattle.std.specs.List.{All}
 use Rattle.std.specs.Option.{option_map_or}
 use Rattle.rh_log.specs.declared.log.LogNode.{LogNode}
@@ -7,6 +7,8 @@ use Rattle.rh_log.specs.Tree.{IsFalseAt, IsClosedTree, LeadsTo, Expands, root, w
 use Rattle.rh_term.specs.declared.clause.Clause.{Clause}
 use Rattle.rh_term.specs.declared.term.Term.{Term}
 use Rattle.rh_term.specs.Partition.{IsOpen, HasNoOpenPartition}
+use Rattle.rh_refuter.specs.declared.choice.Choice.{Choice}
+use Rattle.rh_refuter.specs.declared.choice.Seen.{Seen}
 use Rattle.rh_refuter.specs.declared.search.Verdict.{Verdict}
 use Rattle.rh_refuter.specs.declared.search.Verdict.TheVariants.{Closed, Open}
 
@@ -24,17 +26,26 @@ pub record IsChosen (clauses : List Clause) (labels : List ℕ) (number : ℕ) :
 abbrev pub HasNoFalse : List Clause → List ℕ → Type 0
 HasNoFalse clauses labels = (number : ℕ) → ¬ (IsFalseAt clauses labels number)
 
--- each clause that is false in the partition has an equation
-abbrev pub HasNoFalseDenial : List Clause → List ℕ → Type 0
-HasNoFalseDenial clauses labels = (number : ℕ) → IsFalseAt clauses labels number → 0 < width_at clauses number
+-- a choice among these clauses
+abbrev pub IsBest : List Clause → List ℕ → Option Choice → Type 0
+IsBest clauses labels None = HasNoFalse clauses labels
+IsBest clauses labels (Some choice) = IsChosen clauses labels choice.number × (choice.width ≡ width_at clauses choice.number)
 
--- these are the numbers below a bound of the clauses without an equation, in order
-pub record AreDenials (clauses : List Clause) (bound : ℕ) (denials : List ℕ) : Type 0 where
-  pub within : (i : ℕ) → i < length denials → slice_index denials i < bound
-  pub narrow : (i : ℕ) → i < length denials → width_at clauses (slice_index denials i) ≡ 0
-  pub ascending : (i j : ℕ) → i < j → j < length denials → slice_index denials i < slice_index denials j
-  pub every : (number : ℕ) → number < bound → width_at clauses number ≡ 0
-      → (i : ℕ) × (i < length denials) × (slice_index denials i ≡ number)
+-- the one with fewer equations, and the first of two with as many
+abbrev pub narrower : Option Choice → Choice → Option Choice
+narrower None choice = Some choice
+narrower (Some best) choice = if nat_lt choice.width best.width then Some choice else Some best
+
+-- these clauses were seen after those before
+pub record Adds (labels : List ℕ) (old : Seen) (part : List Clause) (new : Seen) : Type 0 where
+  pub counted : new.count ≡ old.count + length part
+  pub best : (clauses : List Clause) → length clauses ≡ old.count → IsBest clauses labels old.best → IsBest (clauses ++ part) labels new.best
+
+-- the clause with this number is false in the partition, and none before it is
+pub record IsFirstFalse (clauses : List Clause) (labels : List ℕ) (number : ℕ) : Type 0 where
+  pub within : number < length clauses
+  pub is_false : IsFalseAt clauses labels number
+  pub first : (other : ℕ) → other < number → ¬ (IsFalseAt clauses labels other)
 
 -- the chosen clause's node leads from a partition to children that stand before the old branches
 abbrev pub Steps : List Term → List Clause → List ℕ → LogNode → List (List ℕ) → List (List ℕ) → Type 0

@@ -1,102 +1,188 @@
 //! Which clause comes next.
-ghost use Rattle.std.specs.Prelude.{◌≡◌, ◌<◌, ◌^◌, not, true, length, nat_lt, IfOk, IfSome, IfNone};
-ghost use Rattle.std.specs.List.{list_all};
+ghost use Rattle.std.specs.Prelude.{◌≡◌, ◌<◌, ◌+◌, ◌^◌, ◌∷◌, [], false, length, map, nat_lt, IfSome, IfNone};
+ghost use Rattle.std.specs.List.{flat_map};
 ghost use Rattle.std.specs.Option.{option_map_or};
-ghost use Rattle.rh_log.specs.Tree.{width};
-ghost use Rattle.rh_refuter.specs.Choice.{AreDenials, IsChosen, HasNoFalse, HasNoFalseDenial};
+ghost use Rattle.rh_term.specs.Clauses.{all_clauses, part_clauses};
+ghost use Rattle.rh_term.specs.Computed.{clause_with, computed_clauses, operation_clauses};
+ghost use Rattle.rh_refuter.specs.Choice.{Adds, HasNoFalse, IsBest, IsChosen, IsFirstFalse, narrower};
 
-use rh_log::{is_true, width};
-use rh_term::Clause;
-use std::alloc::{AllocError, Global};
+use rh_log::{is_computed, is_true, width};
+use rh_term::{Clause, Clauses, Computed, Operation, Part, Triple, Triples};
 
+/// A clause that is false, and how many equations it has.
 #[derive(Clone, Copy)]
 struct Choice {
-    number: u32,
+    number: usize,
     width: usize,
 }
 
-/// Whether a clause has fewer equations than the choice so far.
-fn is_narrower(clause: &Clause, best: Option<Choice>) -> bool
-    ensures { result ≡ option_map_or (λ choice. nat_lt (width clause.now) choice.width) best true }
+/// How many clauses were seen, and of those that are false the first of those with the fewest equations.
+#[derive(Clone, Copy)]
+struct Seen {
+    count: usize,
+    best: Option<Choice>,
+}
+
+/// The one with fewer equations, and the first of two with as many.
+fn narrower(best: Option<Choice>, choice: Choice) -> Option<Choice>
+    ensures { result ≡ narrower best choice }
 {
     match best {
-        None => true,
-        Some(choice) => width(clause) < choice.width,
-    }
-}
-
-/// The numbers of the clauses without an equation, in order. These are looked at first at each branch,
-/// and where one of them is false no other need be looked at.
-pub fn denials(alloc: Global, clauses: &[Clause]) -> Result<Vec<u32>, AllocError>
-    requires { length clauses.now < 2 ^ 32 }
-    ensures { IfOk result (λ denials. AreDenials clauses.now (length clauses.now) denials.items) }
-{
-    let mut denials = Vec::new(alloc);
-    for number in 0..clauses.len() {
-        if is_denial(&clauses[number]) {
-            denials.push(number as u32)?;
+        None => Some(choice),
+        Some(best) => {
+            if choice.width < best.width {
+                Some(choice)
+            } else {
+                Some(best)
+            }
         }
     }
-    Ok(denials)
 }
 
-/// Whether a clause has no equation.
-fn is_denial(clause: &Clause) -> bool
-    ensures { result ≡ list_all (λ lit. not lit.equal) clause.now.lits }
+/// Whether no clause with one equation can be a better choice.
+fn is_narrow(best: Option<Choice>) -> bool
+    ensures { result ≡ option_map_or (λ choice. nat_lt choice.width 2) best false }
 {
-    clause.lits.as_slice().iter().all(|lit| !lit.equal)
+    match best {
+        None => false,
+        Some(choice) => choice.width < 2,
+    }
 }
 
-/// The first of the clauses without an equation that is false.
-fn first_denial(clauses: &[Clause], denials: &[u32], labels: &[u32]) -> Option<u32>
-    requires { AreDenials clauses.now (length clauses.now) denials.now }
-    ensures chosen { IfSome result (IsChosen clauses.now labels.now) }
-    ensures within { IfSome result (λ number. number < length clauses.now) }
-    ensures none { IfNone result (HasNoFalseDenial clauses.now labels.now) }
+impl Seen {
+    fn with_clause(self, labels: &[u32], clause: &Clause) -> Seen
+        requires { self.count + 1 < 2 ^ 32 }
+        ensures { Adds labels.now self (clause.now ∷ []) result }
+    {
+        let best = if is_true(labels, clause) {
+            self.best
+        } else {
+            let choice = Choice {
+                number: self.count,
+                width: width(clause),
+            };
+            narrower(self.best, choice)
+        };
+        Seen {
+            count: self.count + 1,
+            best,
+        }
+    }
+
+    fn with_made(self, labels: &[u32], clauses: &[Clause]) -> Seen
+        requires { self.count + length clauses.now < 2 ^ 32 }
+        ensures { Adds labels.now self clauses.now result }
+    {
+        let mut seen = self;
+        for clause in clauses {
+            seen = seen.with_clause(labels, clause);
+        }
+        seen
+    }
+
+    fn with_triples(self, labels: &[u32], operation: Operation, triples: &[Triple]) -> Seen
+        requires { self.count + length triples.now < 2 ^ 32 }
+        ensures { Adds labels.now self (map (clause_with operation) triples.now) result }
+    {
+        Seen {
+            count: self.count + triples.len(),
+            best: best_with(self, labels, operation, triples),
+        }
+    }
+
+    fn with_operation(self, labels: &[u32], operation: Operation, triples: &Triples) -> Seen
+        requires { self.count + length (operation_clauses triples.now operation) < 2 ^ 32 }
+        ensures { Adds labels.now self (operation_clauses triples.now operation) result }
+    {
+        self.with_triples(labels, operation, triples.of(operation.op))
+    }
+
+    fn with_computed(self, labels: &[u32], computed: &Computed) -> Seen
+        requires { self.count + length (computed_clauses computed.now) < 2 ^ 32 }
+        ensures { Adds labels.now self (computed_clauses computed.now) result }
+    {
+        let mut seen = self;
+        for operation in computed.operations.as_slice() {
+            seen = seen.with_operation(labels, *operation, &computed.triples);
+        }
+        seen
+    }
+
+    fn with_part(self, labels: &[u32], part: &Part) -> Seen
+        requires { self.count + length (part_clauses part.now) < 2 ^ 32 }
+        ensures { Adds labels.now self (part_clauses part.now) result }
+    {
+        self.with_made(labels, part.made.as_slice())
+            .with_computed(labels, &part.computed)
+    }
+
+    fn with_parts(self, labels: &[u32], parts: &[Part]) -> Seen
+        requires { self.count + length (flat_map part_clauses parts.now) < 2 ^ 32 }
+        ensures { Adds labels.now self (flat_map part_clauses parts.now) result }
+    {
+        let mut seen = self;
+        for part in parts {
+            seen = seen.with_part(labels, part);
+        }
+        seen
+    }
+}
+
+/// The best choice with the clauses of an operation. Each of them has one equation.
+fn best_with(seen: Seen, labels: &[u32], operation: Operation, triples: &[Triple]) -> Option<Choice>
+    requires { seen.count + length triples.now < 2 ^ 32 }
+    ensures { Adds labels.now seen (map (clause_with operation) triples.now) (record { count = seen.count + length triples.now; best = result }) }
 {
-    for number in denials {
-        if !is_true(labels, &clauses[*number as usize]) {
-            return Some(*number);
+    if is_narrow(seen.best) {
+        return seen.best;
+    }
+    match first_false(labels, operation, triples) {
+        Some(at) => {
+            let choice = Choice {
+                number: seen.count + at,
+                width: 1,
+            };
+            narrower(seen.best, choice)
+        }
+        None => seen.best,
+    }
+}
+
+/// The first of the clauses of an operation that is false. They are not made for this.
+fn first_false(labels: &[u32], operation: Operation, triples: &[Triple]) -> Option<usize>
+    ensures found { IfSome result (IsFirstFalse (map (clause_with operation) triples.now) labels.now) }
+    ensures none { IfNone result (HasNoFalse (map (clause_with operation) triples.now) labels.now) }
+{
+    for (at, triple) in triples.iter().enumerate() {
+        if !is_computed(labels, operation, *triple) {
+            return Some(at);
         }
     }
     None
 }
 
-/// Of the clauses that are false, where each has an equation, the first of those with the fewest.
-fn narrowest(clauses: &[Clause], labels: &[u32]) -> Option<u32>
-    requires few { length clauses.now < 2 ^ 32 }
-    requires wide { HasNoFalseDenial clauses.now labels.now }
-    ensures chosen { IfSome result (IsChosen clauses.now labels.now) }
-    ensures within { IfSome result (λ number. number < length clauses.now) }
-    ensures none { IfNone result (HasNoFalse clauses.now labels.now) }
+fn best_of(parts: &[Part], last: &[Clause], labels: &[u32]) -> Option<Choice>
+    requires { length (all_clauses parts.now last.now) < 2 ^ 32 }
+    ensures { IsBest (all_clauses parts.now last.now) labels.now result }
 {
-    let mut best: Option<Choice> = None;
-    for (number, clause) in clauses.iter().enumerate() {
-        if !is_true(labels, clause) && is_narrower(clause, best) {
-            let width = width(clause);
-            if width == 1 {
-                return Some(number as u32);
-            }
-            best = Some(Choice {
-                number: number as u32,
-                width,
-            });
-        }
-    }
-    best.map(|choice| choice.number)
+    let none = Seen {
+        count: 0,
+        best: None,
+    };
+    none.with_parts(labels, parts).with_made(labels, last).best
 }
 
 /// Of the clauses that are false in the partition with these labels, the first of those with the
 /// fewest equations.
-pub fn chosen(clauses: &[Clause], denials: &[u32], labels: &[u32]) -> Option<u32>
+pub fn chosen(clauses: &Clauses, labels: &[u32]) -> Option<u32>
     requires few { length clauses.now < 2 ^ 32 }
-    requires denials { AreDenials clauses.now (length clauses.now) denials.now }
     ensures chosen { IfSome result (IsChosen clauses.now labels.now) }
     ensures within { IfSome result (λ number. number < length clauses.now) }
     ensures none { IfNone result (HasNoFalse clauses.now labels.now) }
 {
-    match first_denial(clauses, denials, labels) {
-        Some(number) => Some(number),
-        None => narrowest(clauses, labels),
+    let (parts, last) = clauses.parts();
+    match best_of(parts, last, labels) {
+        Some(choice) => Some(choice.number as u32),
+        None => None,
     }
 }

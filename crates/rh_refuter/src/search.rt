@@ -3,7 +3,7 @@ ghost use Rattle.std.specs.Prelude.{◌≡◌, ◌<◌, ◌^◌, length, IfOk};
 ghost use Rattle.rh_log.specs.Tree.{width};
 ghost use Rattle.rh_refuter.specs.Choice.{AreNarrow, IsChosen, IsFound, IsDecided, Steps};
 
-use crate::choice::{chosen, denials};
+use crate::choice::chosen;
 use rh_classes::Classes;
 use rh_list::Items;
 use rh_log::{Log, LogNode, expand, root, width};
@@ -30,15 +30,10 @@ pub fn refute(alloc: Global, obligation: &Obligation) -> Result<Verdict, AllocEr
     ensures decided { IfOk result (IsDecided obligation.now.terms obligation.now.clauses) }
 {
     let _list = obligation.terms.len();
-    let denials = denials(alloc, obligation.clauses.as_slice())?;
     let mut branches = root(alloc, &obligation.terms)?;
     let mut nodes = Vec::new(alloc);
     while let Some(classes) = branches.pop_front() {
-        let Some(number) = chosen(
-            obligation.clauses.as_slice(),
-            denials.as_slice(),
-            classes.labels(),
-        ) else {
+        let Some(number) = chosen(&obligation.clauses, classes.labels()) else {
             return Ok(Verdict::Open(Vec::from_slice(alloc, classes.labels())?.into()));
         };
         nodes.push(advance(alloc, obligation, number, &classes, &mut branches)?)?;
@@ -62,9 +57,11 @@ fn advance(
     requires chosen { IsChosen obligation.now.clauses classes.now number }
     ensures { IfOk result (λ node. Steps obligation.now.terms obligation.now.clauses classes.now node branches.old.items branches.new.items) }
 {
-    let clause = &obligation.clauses.as_slice()[number as usize];
-    expand(alloc, &obligation.terms, classes, clause, branches)?;
-    Ok(node(number, clause))
+    let Some(clause) = obligation.clauses.copy_at(alloc, number as usize)? else {
+        unreachable!()
+    };
+    expand(alloc, &obligation.terms, classes, &clause, branches)?;
+    Ok(node(number, &clause))
 }
 
 fn node(number: u32, clause: &Clause) -> LogNode

@@ -10,10 +10,10 @@ use Rattle.rh_grammar.specs.Derivation.{Derivable}
 use Rattle.rh_il.specs.Checks.{IsProgram, has_proper_names}
 use Rattle.rh_il.specs.Name.{is_lower_name}
 use Rattle.rh_il.specs.declared.program.Proc.{Proc}
-use Rattle.rh_il_text.specs.Grammar.{productions, program}
+use Rattle.rh_il_source.specs.Grammar.{productions, program}
 use Rattle.rh_il_text.specs.Program.{IsText}
-use Rattle.rh_il_text.specs.Words.{words_of, classes_of}
-use Rattle.rh_il_text.proofs.PieceWords.{words_said}
+use Rattle.rh_il_source.specs.Words.{words_of, classes_of}
+use Rattle.rh_il_print.proofs.PieceWords.{words_said}
 use Rattle.rh_rule.specs.Keywords.{keyword_of}
 use Rattle.rh_rule.specs.RuleFiles.{IsRuleFile, Rules}
 use Rattle.rh_rule.specs.Words.{are_proper_params, is_proper, rule_is_proper, schema_is_proper}

@@ -16,13 +16,13 @@ use Rattle.rh_il.specs.declared.program.Node.TheVariants.{Entry, At}
 use Rattle.rh_il.specs.declared.program.Proc.{Proc}
 use Rattle.rh_il.specs.declared.program.Slot.{Slot}
 use Rattle.rh_il.specs.declared.program.Slot.TheVariants.{Out, Then, Else}
-use Rattle.rh_il_text.specs.Text.{proc_name}
+use Rattle.rh_il_print.specs.Text.{proc_name}
 use Rattle.rh_rule.specs.Keywords.{keyword_of as rule_keyword_of}
 use Rattle.rh_rule.specs.Words.{are_proper_params, schema_is_proper}
 use Rattle.rh_rule.specs.declared.rule.Arg.{Arg}
 use Rattle.rh_rule.specs.declared.rule.Arg.TheVariants.{Var, Const}
 use Rattle.rh_rule.specs.declared.schema.Schema.{Schema}
-use Rattle.rh_rule_text.specs.Text.{joined, schema_name, slot_text}
+use Rattle.rh_rule_print.specs.Text.{joined, schema_name, slot_text}
 use Rattle.rh_domain.specs.declared.fact.FactAt.{FactAt}
 use Rattle.rh_domain.specs.declared.fact.GroundFact.{GroundFact}
 use Rattle.rh_report.specs.Output.{arg_text, ground_fact_text, node_text, vars_at}

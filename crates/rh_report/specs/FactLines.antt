@@ -4,9 +4,9 @@ use Rattle.std.specs.List.{flat_map}
 use Rattle.std.specs.Option.{option_map_or}
 use Rattle.rh_il.specs.declared.program.Edge.{Edge}
 use Rattle.rh_il.specs.declared.program.Proc.{Proc}
-use Rattle.rh_il_text.specs.Text.{proc_name}
+use Rattle.rh_il_print.specs.Text.{proc_name}
 use Rattle.rh_rule.specs.declared.schema.Schema.{Schema}
-use Rattle.rh_rule_text.specs.Text.{slot_text}
+use Rattle.rh_rule_print.specs.Text.{slot_text}
 use Rattle.rh_domain.specs.declared.domain.Domain.{Domain}
 use Rattle.rh_domain.specs.declared.fact.FactAt.{FactAt}
 use Rattle.rh_domain.specs.Count.{AreFew, IsSmall}

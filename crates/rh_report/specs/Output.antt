@@ -6,7 +6,7 @@ use Rattle.std.specs.Option.{option_map_or}
 use Rattle.rh_il.specs.declared.program.Node.{Node}
 use Rattle.rh_il.specs.declared.program.Node.TheVariants.{Entry, At}
 use Rattle.rh_il.specs.declared.program.Proc.{Proc}
-use Rattle.rh_il_text.specs.Text.{name_at, proc_name, program_text}
+use Rattle.rh_il_print.specs.Text.{name_at, proc_name, program_text}
 use Rattle.rh_rule.specs.declared.rule.Arg.{Arg}
 use Rattle.rh_rule.specs.declared.rule.Arg.TheVariants.{Var, Const}
 use Rattle.rh_rule.specs.declared.rule.Rule.{Rule}
@@ -14,7 +14,7 @@ use Rattle.rh_rule.specs.declared.rule.Ruling.{Ruling}
 use Rattle.rh_rule.specs.declared.rule.Ruling.TheVariants.{Admitted, Refused}
 use Rattle.rh_rule.specs.declared.schema.Schema.{Schema}
 use Rattle.rh_rule.specs.RuleFiles.{Rules}
-use Rattle.rh_rule_text.specs.Text.{joined, schema_name, slot_text}
+use Rattle.rh_rule_print.specs.Text.{joined, schema_name, slot_text}
 use Rattle.rh_domain.specs.Facts.{Known, all_facts}
 use Rattle.rh_domain.specs.declared.fact.FactAt.{FactAt}
 use Rattle.rh_domain.specs.declared.fact.GroundFact.{GroundFact}

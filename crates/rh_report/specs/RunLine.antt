@@ -6,7 +6,7 @@ use Rattle.rh_il.specs.declared.value.Value.{Value}
 use Rattle.rh_il.specs.declared.value.Value.TheVariants.{Num, Ptr}
 use Rattle.rh_il_step.specs.declared.runs.RunEnd.{RunEnd}
 use Rattle.rh_il_step.specs.declared.runs.RunEnd.TheVariants.{Returned, Stuck, Running}
-use Rattle.rh_il_text.specs.Text.{proc_name}
+use Rattle.rh_il_print.specs.Text.{proc_name}
 
 -- a number, or a pointer by its location
 abbrev pub value_text : Value → List ℕ

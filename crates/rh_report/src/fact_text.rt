@@ -1,8 +1,8 @@
 //! The line of a fact.
 ghost use Rattle.std.specs.Prelude.{◌≡◌, ◌++◌, codes, OnOk};
 ghost use Rattle.std.specs.List.{flat_map};
-ghost use Rattle.rh_il_text.specs.Text.{name_at, proc_name};
-ghost use Rattle.rh_rule_text.specs.Text.{joined, schema_name, slot_text};
+ghost use Rattle.rh_il_print.specs.Text.{name_at, proc_name};
+ghost use Rattle.rh_rule_print.specs.Text.{joined, schema_name, slot_text};
 ghost use Rattle.rh_report.specs.Output.{arg_text, fact_line, ground_fact_text, node_text, vars_at};
 ghost use Rattle.rh_report.specs.FactLines.{place_text};
 

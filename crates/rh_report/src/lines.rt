@@ -2,13 +2,13 @@
 ghost use Rattle.std.specs.Prelude.{◌≡◌, ◌++◌, IfOk, OnOk, length};
 ghost use Rattle.rh_il.specs.Checks.{IsProgram};
 ghost use Rattle.rh_il_text.specs.Program.{IsText};
-ghost use Rattle.rh_il_text.specs.Text.{program_text};
+ghost use Rattle.rh_il_print.specs.Text.{program_text};
 ghost use Rattle.rh_rows.specs.Known.{known_in};
 ghost use Rattle.rh_report.specs.Output.{fact_lines, rule_line, rule_lines, ruling_text};
 
 use crate::known::push_known;
 use rh_il::Program;
-use rh_il_text::print_program;
+use rh_il_print::print_program;
 use rh_print::push;
 use rh_rows::Ground;
 use rh_rule::{Rule, Ruling};

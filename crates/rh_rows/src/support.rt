@@ -108,13 +108,19 @@ fn rules_give<T: BitTest>(sought: &Sought<T>, rules: &[Rule], rulings: &[Ruling]
 }
 
 /// Whether some rule of the file gives the fact.
-fn is_given<T: BitTest>(ground: &Ground, rules: &[Rule], known: &T, fact: &FactAt) -> bool
+fn is_given<T: BitTest>(
+    ground: &Ground,
+    rules: &[Rule],
+    rulings: &[Ruling],
+    known: &T,
+    fact: &FactAt,
+) -> bool
     requires rules { rules.now ≡ ground.now.file.rules }
     requires few { Each (λ (rule : ARule). length rule.params ≤ 6) rules.now }
-    ensures { result ≡ is_given ground.now.file ground.now.rulings ground.now.program (T.holds known.now) fact.now }
+    ensures { result ≡ is_given ground.now.file rulings.now ground.now.program (T.holds known.now) fact.now }
 {
     match ground.site(fact.proc, fact.edge.node) {
-        Some(site) => rules_give(&Sought { site, known, fact }, rules, ground.rulings()),
+        Some(site) => rules_give(&Sought { site, known, fact }, rules, rulings),
         None => false,
     }
 }
@@ -124,9 +130,16 @@ impl Ground {
     pub fn supported_by<T: BitTest>(&self, known: &T, bit: u64) -> bool
         ensures { result ≡ supports (rows_of self.now.file self.now.rulings self.now.program) (T.holds known.now) bit }
     {
+        self.supported_under(self.rulings(), known, bit)
+    }
+
+    /// The same of the rows that there are by other rulings on the rules.
+    pub fn supported_under<T: BitTest>(&self, rulings: &[Ruling], known: &T, bit: u64) -> bool
+        ensures { result ≡ supports (rows_of self.now.file rulings.now self.now.program) (T.holds known.now) bit }
+    {
         let rules = self.file().rules();
         match self.fact_of(bit) {
-            Some(fact) => is_given(self, rules, known, &fact),
+            Some(fact) => is_given(self, rules, rulings, known, &fact),
             None => false,
         }
     }

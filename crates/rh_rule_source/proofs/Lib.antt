@@ -1,11 +1,4 @@
-pub mod DerivedRules
-pub mod DerivedFacts
-pub mod DerivedLists
-pub mod DerivedParts
 pub mod SourceInRange
-pub mod Steps
-pub mod Lists
-pub mod Joined
 pub mod OneWay
 pub mod OneOperand
 pub mod OneFact

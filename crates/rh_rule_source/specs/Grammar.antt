@@ -1,7 +1,7 @@
 -- The grammar of rule files: the classes of words, the nonterminals, and what each of them may be replaced by.
-use Rattle.std.specs.Prelude.{ℕ, List, [], ◌∷◌}
-use Rattle.rh_grammar.specs.declared.grammar.Symbol.{Symbol}
+use Rattle.std.specs.Prelude.{ℕ, [], ◌∷◌}
 use Rattle.rh_grammar.specs.declared.grammar.Symbol.TheVariants.{Token, Rule}
+use Rattle.rh_grammar.specs.Derivation.{Rules}
 
 -- the signs, and the words of the grammar
 abbrev pub BECOMES : ℕ
@@ -229,110 +229,65 @@ conclusion = 27
 abbrev pub slot : ℕ
 slot = 28
 
--- What each nonterminal may be replaced by. A nonterminal's productions stand together.
-unfoldable pub productions : List (ℕ × List Symbol)
+-- What each nonterminal may be replaced by, in the order of their numbers.
+unfoldable pub productions : Rules
 productions =
     -- file = "rhodium" 1 ";" items | item items | nothing
-    (file, Token RHODIUM ∷ Token ONE ∷ Token SEMICOLON ∷ Rule items ∷ []) ∷
-    (file, Rule item ∷ Rule items ∷ []) ∷
-    (file, []) ∷
+    ((Token RHODIUM ∷ Token ONE ∷ Token SEMICOLON ∷ Rule items ∷ []) ∷ (Rule item ∷ Rule items ∷ []) ∷ [] ∷ []) ∷
     -- items = item items | nothing
-    (items, Rule item ∷ Rule items ∷ []) ∷
-    (items, []) ∷
+    ((Rule item ∷ Rule items ∷ []) ∷ [] ∷ []) ∷
     -- item = fact | rule
-    (item, Rule fact ∷ []) ∷
-    (item, Rule rule ∷ []) ∷
+    ((Rule fact ∷ []) ∷ (Rule rule ∷ []) ∷ []) ∷
     -- fact = "fact" Lower "(" param params ")" "means" atom atoms ";"
-    (fact, Token FACT ∷ Token LOWER ∷ Token OPEN_PAREN ∷ Rule param ∷ Rule params ∷ Token CLOSE_PAREN ∷ Token MEANS ∷ Rule atom ∷ Rule atoms ∷ Token SEMICOLON ∷ []) ∷
+    ((Token FACT ∷ Token LOWER ∷ Token OPEN_PAREN ∷ Rule param ∷ Rule params ∷ Token CLOSE_PAREN ∷ Token MEANS ∷ Rule atom ∷ Rule atoms ∷ Token SEMICOLON ∷ []) ∷ []) ∷
     -- param = "var" Upper | "const" Upper
-    (param, Token VAR ∷ Token UPPER ∷ []) ∷
-    (param, Token CONST ∷ Token UPPER ∷ []) ∷
+    ((Token VAR ∷ Token UPPER ∷ []) ∷ (Token CONST ∷ Token UPPER ∷ []) ∷ []) ∷
     -- params = "," param params | nothing
-    (params, Token COMMA ∷ Rule param ∷ Rule params ∷ []) ∷
-    (params, []) ∷
+    ((Token COMMA ∷ Rule param ∷ Rule params ∷ []) ∷ [] ∷ []) ∷
     -- atoms = "and" atom atoms | nothing
-    (atoms, Token AND ∷ Rule atom ∷ Rule atoms ∷ []) ∷
-    (atoms, []) ∷
+    ((Token AND ∷ Rule atom ∷ Rule atoms ∷ []) ∷ [] ∷ []) ∷
     -- atom = "number" "(" mterm ")" | "pointer" "(" mterm ")" | "unaliased" "(" Upper ")" | mterm relation mterm
-    (atom, Token NUMBER_OF ∷ Token OPEN_PAREN ∷ Rule mterm ∷ Token CLOSE_PAREN ∷ []) ∷
-    (atom, Token POINTER ∷ Token OPEN_PAREN ∷ Rule mterm ∷ Token CLOSE_PAREN ∷ []) ∷
-    (atom, Token UNALIASED ∷ Token OPEN_PAREN ∷ Token UPPER ∷ Token CLOSE_PAREN ∷ []) ∷
-    (atom, Rule mterm ∷ Rule relation ∷ Rule mterm ∷ []) ∷
+    ((Token NUMBER_OF ∷ Token OPEN_PAREN ∷ Rule mterm ∷ Token CLOSE_PAREN ∷ []) ∷ (Token POINTER ∷ Token OPEN_PAREN ∷ Rule mterm ∷ Token CLOSE_PAREN ∷ []) ∷ (Token UNALIASED ∷ Token OPEN_PAREN ∷ Token UPPER ∷ Token CLOSE_PAREN ∷ []) ∷ (Rule mterm ∷ Rule relation ∷ Rule mterm ∷ []) ∷ []) ∷
     -- relation = "==" | "!="
-    (relation, Token EQUAL ∷ []) ∷
-    (relation, Token DIFFER ∷ []) ∷
+    ((Token EQUAL ∷ []) ∷ (Token DIFFER ∷ []) ∷ []) ∷
     -- mterm = "&" Upper | "*" Upper | "(" mbase op mbase ")" | mbase
-    (mterm, Token AMPERSAND ∷ Token UPPER ∷ []) ∷
-    (mterm, Token STAR ∷ Token UPPER ∷ []) ∷
-    (mterm, Token OPEN_PAREN ∷ Rule mbase ∷ Rule op ∷ Rule mbase ∷ Token CLOSE_PAREN ∷ []) ∷
-    (mterm, Rule mbase ∷ []) ∷
+    ((Token AMPERSAND ∷ Token UPPER ∷ []) ∷ (Token STAR ∷ Token UPPER ∷ []) ∷ (Token OPEN_PAREN ∷ Rule mbase ∷ Rule op ∷ Rule mbase ∷ Token CLOSE_PAREN ∷ []) ∷ (Rule mbase ∷ []) ∷ []) ∷
     -- mbase = Upper | num
-    (mbase, Token UPPER ∷ []) ∷
-    (mbase, Rule num ∷ []) ∷
+    ((Token UPPER ∷ []) ∷ (Rule num ∷ []) ∷ []) ∷
     -- num = "-" size | 1 | NUMBER
-    (num, Token MINUS ∷ Rule size ∷ []) ∷
-    (num, Token ONE ∷ []) ∷
-    (num, Token NUMBER ∷ []) ∷
+    ((Token MINUS ∷ Rule size ∷ []) ∷ (Token ONE ∷ []) ∷ (Token NUMBER ∷ []) ∷ []) ∷
     -- size = 1 | NUMBER | 2^63
-    (size, Token ONE ∷ []) ∷
-    (size, Token NUMBER ∷ []) ∷
-    (size, Token LARGEST ∷ []) ∷
+    ((Token ONE ∷ []) ∷ (Token NUMBER ∷ []) ∷ (Token LARGEST ∷ []) ∷ []) ∷
     -- op = "+" | "-" | "*" | "<" | "=="
-    (op, Token PLUS ∷ []) ∷
-    (op, Token MINUS ∷ []) ∷
-    (op, Token STAR ∷ []) ∷
-    (op, Token LESS ∷ []) ∷
-    (op, Token EQUAL ∷ []) ∷
+    ((Token PLUS ∷ []) ∷ (Token MINUS ∷ []) ∷ (Token STAR ∷ []) ∷ (Token LESS ∷ []) ∷ (Token EQUAL ∷ []) ∷ []) ∷
     -- rule = "rule" Lower "(" metas ")" "{" pattern when "=>" conclusion "}"
-    (rule, Token RULE ∷ Token LOWER ∷ Token OPEN_PAREN ∷ Rule metas ∷ Token CLOSE_PAREN ∷ Token OPEN_BRACE ∷ Rule pattern ∷ Rule when ∷ Token ARROW ∷ Rule conclusion ∷ Token CLOSE_BRACE ∷ []) ∷
+    ((Token RULE ∷ Token LOWER ∷ Token OPEN_PAREN ∷ Rule metas ∷ Token CLOSE_PAREN ∷ Token OPEN_BRACE ∷ Rule pattern ∷ Rule when ∷ Token ARROW ∷ Rule conclusion ∷ Token CLOSE_BRACE ∷ []) ∷ []) ∷
     -- metas = param params | nothing
-    (metas, Rule param ∷ Rule params ∷ []) ∷
-    (metas, []) ∷
+    ((Rule param ∷ Rule params ∷ []) ∷ [] ∷ []) ∷
     -- pattern = "entry" "(" Upper ")" | "goto" | form
-    (pattern, Token ENTRY ∷ Token OPEN_PAREN ∷ Token UPPER ∷ Token CLOSE_PAREN ∷ []) ∷
-    (pattern, Token GOTO ∷ []) ∷
-    (pattern, Rule form ∷ []) ∷
+    ((Token ENTRY ∷ Token OPEN_PAREN ∷ Token UPPER ∷ Token CLOSE_PAREN ∷ []) ∷ (Token GOTO ∷ []) ∷ (Rule form ∷ []) ∷ []) ∷
     -- form = "skip" | "*" Upper ":=" wbase | "if" wbase | "return" wbase | Upper ":=" right
-    (form, Token SKIP ∷ []) ∷
-    (form, Token STAR ∷ Token UPPER ∷ Token BECOMES ∷ Rule wbase ∷ []) ∷
-    (form, Token IF ∷ Rule wbase ∷ []) ∷
-    (form, Token RETURN ∷ Rule wbase ∷ []) ∷
-    (form, Token UPPER ∷ Token BECOMES ∷ Rule right ∷ []) ∷
+    ((Token SKIP ∷ []) ∷ (Token STAR ∷ Token UPPER ∷ Token BECOMES ∷ Rule wbase ∷ []) ∷ (Token IF ∷ Rule wbase ∷ []) ∷ (Token RETURN ∷ Rule wbase ∷ []) ∷ (Token UPPER ∷ Token BECOMES ∷ Rule right ∷ []) ∷ []) ∷
     -- right = "_" | "new" | "&" Upper | "*" Upper | "call" "(" wbase ")" | mbase operation
-    (right, Token UNDERSCORE ∷ []) ∷
-    (right, Token NEW ∷ []) ∷
-    (right, Token AMPERSAND ∷ Token UPPER ∷ []) ∷
-    (right, Token STAR ∷ Token UPPER ∷ []) ∷
-    (right, Token CALL ∷ Token OPEN_PAREN ∷ Rule wbase ∷ Token CLOSE_PAREN ∷ []) ∷
-    (right, Rule mbase ∷ Rule operation ∷ []) ∷
+    ((Token UNDERSCORE ∷ []) ∷ (Token NEW ∷ []) ∷ (Token AMPERSAND ∷ Token UPPER ∷ []) ∷ (Token STAR ∷ Token UPPER ∷ []) ∷ (Token CALL ∷ Token OPEN_PAREN ∷ Rule wbase ∷ Token CLOSE_PAREN ∷ []) ∷ (Rule mbase ∷ Rule operation ∷ []) ∷ []) ∷
     -- operation = op mbase | nothing
-    (operation, Rule op ∷ Rule mbase ∷ []) ∷
-    (operation, []) ∷
+    ((Rule op ∷ Rule mbase ∷ []) ∷ [] ∷ []) ∷
     -- wbase = "_" | mbase
-    (wbase, Token UNDERSCORE ∷ []) ∷
-    (wbase, Rule mbase ∷ []) ∷
+    ((Token UNDERSCORE ∷ []) ∷ (Rule mbase ∷ []) ∷ []) ∷
     -- when = "when" cond conds | nothing
-    (when, Token WHEN ∷ Rule cond ∷ Rule conds ∷ []) ∷
-    (when, []) ∷
+    ((Token WHEN ∷ Rule cond ∷ Rule conds ∷ []) ∷ [] ∷ []) ∷
     -- conds = "," cond conds | nothing
-    (conds, Token COMMA ∷ Rule cond ∷ Rule conds ∷ []) ∷
-    (conds, []) ∷
+    ((Token COMMA ∷ Rule cond ∷ Rule conds ∷ []) ∷ [] ∷ []) ∷
     -- cond = fact_use "@" "in" | sterm relation sterm
-    (cond, Rule fact_use ∷ Token AT ∷ Token IN ∷ []) ∷
-    (cond, Rule sterm ∷ Rule relation ∷ Rule sterm ∷ []) ∷
+    ((Rule fact_use ∷ Token AT ∷ Token IN ∷ []) ∷ (Rule sterm ∷ Rule relation ∷ Rule sterm ∷ []) ∷ []) ∷
     -- fact_use = Lower "(" mbase args ")"
-    (fact_use, Token LOWER ∷ Token OPEN_PAREN ∷ Rule mbase ∷ Rule args ∷ Token CLOSE_PAREN ∷ []) ∷
+    ((Token LOWER ∷ Token OPEN_PAREN ∷ Rule mbase ∷ Rule args ∷ Token CLOSE_PAREN ∷ []) ∷ []) ∷
     -- args = "," mbase args | nothing
-    (args, Token COMMA ∷ Rule mbase ∷ Rule args ∷ []) ∷
-    (args, []) ∷
+    ((Token COMMA ∷ Rule mbase ∷ Rule args ∷ []) ∷ [] ∷ []) ∷
     -- sterm = "(" mbase op mbase ")" | mbase
-    (sterm, Token OPEN_PAREN ∷ Rule mbase ∷ Rule op ∷ Rule mbase ∷ Token CLOSE_PAREN ∷ []) ∷
-    (sterm, Rule mbase ∷ []) ∷
+    ((Token OPEN_PAREN ∷ Rule mbase ∷ Rule op ∷ Rule mbase ∷ Token CLOSE_PAREN ∷ []) ∷ (Rule mbase ∷ []) ∷ []) ∷
     -- conclusion = fact_use "@" slot | "transform" form
-    (conclusion, Rule fact_use ∷ Token AT ∷ Rule slot ∷ []) ∷
-    (conclusion, Token TRANSFORM ∷ Rule form ∷ []) ∷
+    ((Rule fact_use ∷ Token AT ∷ Rule slot ∷ []) ∷ (Token TRANSFORM ∷ Rule form ∷ []) ∷ []) ∷
     -- slot = "out" | "then" | "else"
-    (slot, Token OUT ∷ []) ∷
-    (slot, Token THEN ∷ []) ∷
-    (slot, Token ELSE ∷ []) ∷
+    ((Token OUT ∷ []) ∷ (Token THEN ∷ []) ∷ (Token ELSE ∷ []) ∷ []) ∷
     []

@@ -1,12 +1,9 @@
-//! The syntax of rule files: what their tokens say, and the source that the grammar makes of them.
-//! In a source names stand as they are spelled.
+//! The syntax of rule files: what their tokens say, the grammar, and the sources that words spell. In a source names
+//! stand as they are spelled.
 #![tactic(auto)]
 
-mod build;
-mod cursor;
-mod grammar;
+pub mod grammar;
 mod source;
-mod syntax;
 mod word;
 
 pub use source::{
@@ -14,5 +11,4 @@ pub use source::{
     SourceForm, SourceItem, SourceOperand, SourceOperation, SourceParam, SourcePattern,
     SourceRight, SourceRule, SourceSide, SourceTerm, SourceUse,
 };
-pub use syntax::source_of;
-pub use word::{Spelled, Word, words_of};
+pub use word::{Spelled, Word, classes_of, words_of};

@@ -20,7 +20,7 @@ pub struct Spelled {
 
 impl Spelled {
     /// What stands in the place of a name where there is none.
-    pub(crate) fn none() -> Spelled {
+    pub fn none() -> Spelled {
         let name = Name::of(b"none").unwrap();
         Spelled { name, at: 0 }
     }
@@ -135,7 +135,7 @@ pub fn words_of(alloc: Global, text: &[u8], tokens: &[Token]) -> Result<Vec<Word
 }
 
 /// The classes of words.
-pub(crate) fn classes_of(alloc: Global, words: &[Word]) -> Result<Vec<u8>, AllocError>
+pub fn classes_of(alloc: Global, words: &[Word]) -> Result<Vec<u8>, AllocError>
     ensures { IfOk result (λ classes. classes.items ≡ map class_of words.now) }
 {
     words.iter().map(|word| word.class()).collect(alloc)

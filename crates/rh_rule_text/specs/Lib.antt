@@ -3,4 +3,3 @@ pub mod Unknown
 pub mod Reading
 pub mod Answer
 pub mod Proper
-pub mod Text

@@ -18,7 +18,8 @@ use crate::fault::RulesFault;
 use crate::file::{facts_of, rules_of, schemas_of, unknown_in_items};
 use rh_grammar::ParseFault;
 use rh_rule::{RuleFault, RuleFile};
-use rh_rule_source::{SourceFile, source_of, words_of};
+use rh_rule_parse::source_of;
+use rh_rule_source::{SourceFile, words_of};
 use rh_text::{LexFault, TEXT_LIMIT, Token, tokens};
 use std::alloc::Global;
 

@@ -5,6 +5,7 @@ pub mod Numbers
 pub mod PairCounts
 pub mod FewNodes
 pub mod Marking
+pub mod Outside
 pub mod OwnBits
 pub mod EdgeSites
 pub mod RulesLeft

@@ -20,13 +20,9 @@ use Rattle.rh_domain.specs.Count.{IsSmall}
 use Rattle.rh_layout.specs.declared.layout.Layout.{Layout}
 use Rattle.rh_layout.specs.Layout.{IsLayoutOf}
 use Rattle.rh_ground.specs.Instance.{fact_under, is_instance}
-use Rattle.rh_system.specs.declared.system.Row.{Row}
 use Rattle.rh_system.specs.Bits.{BitSet, bits_in}
 use Rattle.rh_rows.specs.Known.{known_by, slot_eq}
-
--- some row is one of the bit
-abbrev pub has_row : List Row → ℕ → Bool
-has_row rows bit = list_any (λ row. row.bit == bit) rows
+pub use Rattle.rh_carry.specs.Carry.{has_row}
 
 -- the new words are as many as the old ones, with the bits of these and those that pass the test
 pub record Marks (test : BitSet) (old new : List ℕ) : Type 0 where

@@ -1,20 +1,22 @@
 //! Which bits of a program have a row. They are found from the instances of the rules, edge by edge, and not by asking
 //! each bit. Begin with `candidates`.
-ghost use Rattle.std.specs.Prelude.{ℕ, ◌≡◌, ◌≤◌, ◌==◌, None, Some, false, length, slice_get, vec_len, IfNone, IfOk, IfSome};
+ghost use Rattle.std.specs.Prelude.{ℕ, ◌≡◌, ◌≤◌, ◌==◌, None, Some, false, true, length, slice_get, vec_len, IfNone, IfOk, IfSome};
 ghost use Rattle.std.specs.Option.{option_map_or};
 ghost use Rattle.std.proofs.Props.{props};
 ghost use Rattle.rh_list.specs.Each.{Each};
 ghost use Rattle.rh_il.specs.declared.program.Proc.{Proc as AProc};
 ghost use Rattle.rh_il.specs.Flow.{edges_of};
 ghost use Rattle.rh_rule.specs.declared.rule.Rule.{Rule as ARule};
-ghost use Rattle.rh_ground.specs.Instance.{is_instance};
+ghost use Rattle.rh_ground.specs.Instance.{is_instance, is_rule_in};
 ghost use Rattle.rh_layout.specs.Bits.{full_words};
 ghost use Rattle.rh_system.specs.Bits.{bits_in};
 ghost use Rattle.rh_rows.specs.BitRows.{rows_of};
 ghost use Rattle.rh_sparse.specs.Candidates.{IsEdgeSite, Marks, concluded_in, concluded_on, edge_count, fact_on, has_row, is_bit_of, is_concluded, rule_concludes, rules_conclude, some_concludes};
 
 use rh_domain::Domain;
-use rh_ground::{Visitor, Wanted, args_under, fixed_by_rule, is_instance, visit_bindings};
+use rh_ground::{
+    Visitor, Wanted, args_under, fixed_by_rule, is_rule_in, may_match, rule_matches, visit_bindings,
+};
 use rh_il::{Edge, Proc, Program};
 use rh_layout::Layout;
 use rh_rows::Ground;
@@ -40,12 +42,14 @@ struct EdgeSite<'a> {
     ghost is: { IsEdgeSite schemas.now program.now layout.now proc.now domain.now place number edge } by { Prim.hlevel props },
 }
 
-/// The instances of a rule at the node that an edge leaves, and what the rule concludes on the edge.
+/// The instances of a rule at the node that an edge leaves, and what the rule concludes on the edge. Whether the numbers
+/// in the rule are constants of the procedure is asked before any binding is tried.
 #[derive(Clone, Copy)]
 struct Concluding<'a> {
     site: EdgeSite<'a>,
     rule: &'a Rule,
     concluded: &'a FactUse,
+    ghost inside: { is_rule_in site.proc.now rule.now ≡ true },
 }
 
 impl Concluding<'_> {
@@ -70,8 +74,7 @@ impl Wanted for Concluding<'_> {
     ghost accepts = { λ c binding. is_instance c.site.proc.now c.rule.now binding c.site.edge.node };
 
     fn accepts(&self, binding: &[Arg]) -> bool {
-        let site = &self.site;
-        is_instance(site.proc, site.domain, self.rule, binding, site.edge.node)
+        rule_matches(self.site.proc, self.rule, binding, self.site.edge.node)
     }
 
     fn fixed(&self, meta: u32) -> Option<Arg> {
@@ -101,17 +104,29 @@ fn mark(words: &mut [u64], bit: u64)
     }
 }
 
+/// Marks what a rule with a pattern of the form of the statement concludes on the edge.
+fn mark_matching(site: &EdgeSite, rule: &Rule, concluded: &FactUse, masks: &mut Vec<u64>)
+    requires { length rule.now.params ≤ 6 }
+    ensures { Marks (some_concludes site.now.schemas.now site.now.program.now site.now.place site.now.proc.now site.now.edge rule.now concluded.now) masks.old.items masks.new.items }
+{
+    if is_rule_in(site.proc, site.domain, rule) {
+        let concluding = Concluding {
+            site: *site,
+            rule,
+            concluded,
+        };
+        visit_bindings(site.domain, rule.params.as_slice(), &concluding, masks);
+    }
+}
+
 /// Marks what the rule, which concludes this, concludes on the edge.
 fn mark_instances(site: &EdgeSite, rule: &Rule, concluded: &FactUse, masks: &mut Vec<u64>)
     requires { length rule.now.params ≤ 6 }
     ensures { Marks (some_concludes site.now.schemas.now site.now.program.now site.now.place site.now.proc.now site.now.edge rule.now concluded.now) masks.old.items masks.new.items }
 {
-    let concluding = Concluding {
-        site: *site,
-        rule,
-        concluded,
-    };
-    visit_bindings(site.domain, rule.params.as_slice(), &concluding, masks);
+    if may_match(site.proc, rule.pattern, site.edge.node) {
+        mark_matching(site, rule, concluded, masks);
+    }
 }
 
 /// Marks what the rule concludes on the edge. Refused rules and other conclusions are passed over before any binding is
@@ -169,13 +184,20 @@ fn edge_site(ground: &Ground, place: u32, number: usize) -> Option<EdgeSite<'_>>
 }
 
 /// Marks what the rules conclude on the edge with a number of the procedure at a place.
-fn mark_edge(ground: &Ground, rules: &[Rule], place: u32, number: usize, masks: &mut Vec<u64>)
+fn mark_edge(
+    ground: &Ground,
+    rules: &[Rule],
+    rulings: &[Ruling],
+    place: u32,
+    number: usize,
+    masks: &mut Vec<u64>,
+)
     requires rules { rules.now ≡ ground.now.file.rules }
     requires few { Each (λ (rule : ARule). length rule.params ≤ 6) rules.now }
-    ensures { Marks (concluded_on ground.now.file ground.now.rulings ground.now.program place number) masks.old.items masks.new.items }
+    ensures { Marks (concluded_on ground.now.file rulings.now ground.now.program place number) masks.old.items masks.new.items }
 {
     if let Some(site) = edge_site(ground, place, number) {
-        mark_rules(&site, rules, ground.rulings(), masks);
+        mark_rules(&site, rules, rulings, masks);
     }
 }
 
@@ -190,34 +212,44 @@ fn edge_count(ground: &Ground, place: u32) -> usize
 }
 
 /// Marks what the rules conclude on the edges of the procedure at a place.
-fn mark_procedure(ground: &Ground, rules: &[Rule], place: u32, masks: &mut Vec<u64>)
+fn mark_procedure(
+    ground: &Ground,
+    rules: &[Rule],
+    rulings: &[Ruling],
+    place: u32,
+    masks: &mut Vec<u64>,
+)
     requires rules { rules.now ≡ ground.now.file.rules }
     requires few { Each (λ (rule : ARule). length rule.params ≤ 6) rules.now }
-    ensures { Marks (concluded_in ground.now.file ground.now.rulings ground.now.program place) masks.old.items masks.new.items }
+    ensures { Marks (concluded_in ground.now.file rulings.now ground.now.program place) masks.old.items masks.new.items }
 {
     for number in 0..edge_count(ground, place) {
-        mark_edge(ground, rules, place, number, masks);
+        mark_edge(ground, rules, rulings, place, number, masks);
     }
 }
 
 /// Marks what the rules conclude on all edges.
-fn mark_program(ground: &Ground, rules: &[Rule], masks: &mut Vec<u64>)
+fn mark_program(ground: &Ground, rules: &[Rule], rulings: &[Ruling], masks: &mut Vec<u64>)
     requires rules { rules.now ≡ ground.now.file.rules }
     requires few { Each (λ (rule : ARule). length rule.params ≤ 6) rules.now }
-    ensures { Marks (is_concluded ground.now.file ground.now.rulings ground.now.program) masks.old.items masks.new.items }
+    ensures { Marks (is_concluded ground.now.file rulings.now ground.now.program) masks.old.items masks.new.items }
 {
     for place in 0..ground.program().count() {
-        mark_procedure(ground, rules, place, masks);
+        mark_procedure(ground, rules, rulings, place, masks);
     }
 }
 
-/// For each word of the system of a program the bits of it that have a row. It visits each instance of an admitted rule
-/// once for each edge on which it concludes a fact, and takes memory for the words alone.
-pub(crate) fn candidates(alloc: Global, ground: &Ground) -> Result<Vec<u64>, AllocError>
+/// For each word of the system of a program the bits of it that have a row by these rulings. It visits each instance of
+/// an admitted rule once for each edge on which it concludes a fact, and takes memory for the words alone.
+pub(crate) fn candidates(
+    alloc: Global,
+    ground: &Ground,
+    rulings: &[Ruling],
+) -> Result<Vec<u64>, AllocError>
     ensures length { IfOk result (λ masks. vec_len masks ≡ length (full_words ground.now.file.schemas ground.now.program)) }
-    ensures bits { IfOk result (λ masks. (bit : ℕ) → bits_in masks.items bit ≡ has_row (rows_of ground.now.file ground.now.rulings ground.now.program) bit) }
+    ensures bits { IfOk result (λ masks. (bit : ℕ) → bits_in masks.items bit ≡ has_row (rows_of ground.now.file rulings.now ground.now.program) bit) }
 {
     let mut masks = vec![in alloc; 0; ground.layout().words() as usize]?;
-    mark_program(ground, ground.file().rules(), &mut masks);
+    mark_program(ground, ground.file().rules(), rulings, &mut masks);
     Ok(masks)
 }

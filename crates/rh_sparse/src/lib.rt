@@ -6,6 +6,7 @@ mod candidates;
 mod flow;
 mod lists;
 mod sparse;
+mod support;
 mod threads;
 
 ghost use Rattle.rh_sparse.specs.Laws.{GreatestIsSparse, SparseIsCovered};

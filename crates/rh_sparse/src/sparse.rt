@@ -9,23 +9,25 @@ ghost use Rattle.rh_sparse.specs.Parts.{AreCandidates, full_in, rows_in};
 ghost use Rattle.rh_rank.specs.Rank.{rank};
 ghost use Rattle.rh_sparse.specs.Sparse.{candidate_count, missing_count, number_of, sparse_full, sparse_rows};
 
-use crate::candidates::candidates;
 use crate::flow::Flow;
+use crate::support::Support;
 use rh_list::Items;
 use rh_rank::Numbering;
 use rh_rows::Ground;
 use rh_system::{BitTest, Hints, System, has};
 use std::alloc::{AllocError, Global};
 
-/// The candidates of a program, which are the bits that have rows, numbered from 0 in order. It keeps twelve bytes for
-/// each word of the program and for each 64 candidates, sixteen for each node, and eight for each word that a node reads.
+/// The candidates of a program, which are the bits that have rows, numbered from 0 in order. It keeps 28 bytes for each
+/// word of the program, twelve for each 64 candidates, sixteen for each node, and eight for each word that a node reads.
 #[derive(Drop)]
 pub struct Sparse<'g> {
     facts: &'g Ground,
+    support: Support<'g>,
     numbering: Numbering,
     flow: Flow,
     ghost candidates: { AreCandidates facts.now numbering.words } by { Prim.hlevel props },
     ghost covered: { list_all (λ row. bits_in (sparse_full (full_in facts.now) (rows_in facts.now)) row.bit) (sparse_rows (rows_in facts.now)) ≡ true },
+    ghost same: { support.facts.now ≡ facts.now },
     ghost width: { flow.entering.bound ≡ length (sparse_full (full_in facts.now) (rows_in facts.now)) },
 }
 
@@ -52,11 +54,13 @@ impl<'g> Sparse<'g> {
     pub fn new(alloc: Global, ground: &'g Ground) -> Result<Sparse<'g>, AllocError>
         ensures { IfOk result (λ sparse. sparse.facts.now ≡ ground.now) }
     {
-        let masks = candidates(alloc, ground)?;
+        let support = Support::new(alloc, ground)?;
+        let masks = support.candidates(alloc)?;
         let numbering = Numbering::new(alloc, Items::from(masks))?;
         let flow = Flow::new(alloc, ground, numbering.before(), numbering.width())?;
         Ok(Sparse {
             facts: ground,
+            support,
             numbering,
             flow,
         })
@@ -139,7 +143,7 @@ impl System for Sparse<'_> {
             numbers: words,
         };
         match self.numbering.bit_at(bit) {
-            Some(bit) => self.facts.supported_by(&known, bit),
+            Some(bit) => self.support.is_supported(&known, bit),
             None => false,
         }
     }

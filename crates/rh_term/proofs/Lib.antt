@@ -8,3 +8,4 @@ pub mod Congruence
 pub mod Bridge
 pub mod Placed
 pub mod Found
+pub mod InParts

@@ -6,3 +6,5 @@ pub mod Partition
 pub mod Laws
 pub mod Place
 pub mod Lits
+pub mod Computed
+pub mod Clauses

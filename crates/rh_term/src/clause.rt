@@ -1,5 +1,8 @@
 //! Literals and clauses.
+ghost use Rattle.std.specs.Prelude.{◌≡◌, IfOk};
+
 use crate::lits::Lits;
+use std::alloc::{AllocError, Global};
 
 /// That two terms, by their places, are equal or differ.
 #[derive(Clone, Copy, Debug, PartialEq, Eq)]
@@ -17,4 +20,15 @@ pub struct Lit {
 pub struct Clause {
     /// The literals, from left to right.
     pub lits: Lits,
+}
+
+impl Clause {
+    /// An equal clause.
+    pub fn copy(&self, alloc: Global) -> Result<Clause, AllocError>
+        ensures { IfOk result (λ copy. copy ≡ self.now) }
+    {
+        Ok(Clause {
+            lits: self.lits.copy(alloc)?,
+        })
+    }
 }

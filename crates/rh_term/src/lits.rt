@@ -1,8 +1,9 @@
 //! Lists of literals. Nearly all clauses are instances of the schemas, which have up to three literals:
 //! these take no memory of their own, since an obligation can have hundreds of thousands.
-ghost use Rattle.std.specs.Prelude.{◌≡◌, [], ◌∷◌, length};
+ghost use Rattle.std.specs.Prelude.{◌≡◌, [], ◌∷◌, IfOk, length};
 
 use crate::clause::Lit;
+use std::alloc::{AllocError, Global};
 use std::marker::Model;
 
 #[derive(Drop)]
@@ -68,6 +69,19 @@ impl Lits {
             Inside::Three(lits) => lits.as_slice(),
             Inside::Many(lits) => lits.as_slice(),
         }
+    }
+
+    /// Equal literals.
+    pub fn copy(&self, alloc: Global) -> Result<Lits, AllocError>
+        ensures { IfOk result (λ copy. copy ≡ self.now) }
+    {
+        let inside = match &self.inside {
+            Inside::One(lits) => Inside::One(*lits),
+            Inside::Two(lits) => Inside::Two(*lits),
+            Inside::Three(lits) => Inside::Three(*lits),
+            Inside::Many(lits) => Inside::Many(Vec::from_slice(alloc, lits.as_slice())?),
+        };
+        Ok(Lits { inside })
     }
 
     /// How many literals there are.

@@ -1,6 +1,7 @@
 //! Texts of programs: what they are printed as, and the fault of each that is not a text of one.
 use rh_il::{Edge, Limited, Node, ProgFault, ProgWrong, Program, Slot};
-use rh_il_text::{ReadFault, print_program, read_program};
+use rh_il_print::print_program;
+use rh_il_text::{ReadFault, read_program};
 use rh_text::{LexFault, TEXT_LIMIT};
 use std::alloc::{AllocError, Global};
 use std::process::Abort;

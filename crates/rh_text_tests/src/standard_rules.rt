@@ -1,5 +1,6 @@
 //! The standard rules, read and printed.
-use rh_rule_text::{print_rules, read_rules};
+use rh_rule_print::print_rules;
+use rh_rule_text::read_rules;
 use rh_text::TEXT_LIMIT;
 use std::alloc::Global;
 use std::process::Abort;

@@ -9,12 +9,12 @@ use Rattle.rh_il.specs.declared.program.Proc.{Proc}
 use Rattle.rh_il.specs.Checks.{IsProgram}
 use Rattle.rh_il.specs.Numbers.{HasNumbers}
 use Rattle.rh_il_text.specs.Program.{IsText}
-use Rattle.rh_il_text.specs.Text.{program_text}
+use Rattle.rh_il_print.specs.Text.{program_text}
 use Rattle.rh_log.specs.declared.log.Admission.{Admission}
 use Rattle.rh_log.specs.Admission.{ruling_of}
 use Rattle.rh_oblig.specs.Obligation.{excess}
 use Rattle.rh_oblig.specs.Ruling.{IsRuling}
-use Rattle.rh_oblig.specs.Valid.{IsSound}
+use Rattle.rh_goals.specs.Valid.{IsSound}
 use Rattle.rh_oblig.proofs.Sound.{admitted_are_sound}
 use Rattle.rh_rule.specs.declared.rule.Rule.{Rule}
 use Rattle.rh_rule.specs.declared.rule.Ruling.{Ruling}

@@ -4,7 +4,7 @@ use Rattle.rh_audit.specs.Audit.{IsAudited}
 use Rattle.rh_gen.specs.Generated.{generated}
 use Rattle.rh_gen.specs.Standard.{standard_rules}
 use Rattle.rh_il.specs.declared.program.Proc.{Proc}
-use Rattle.rh_il_text.specs.Text.{program_text}
+use Rattle.rh_il_print.specs.Text.{program_text}
 use Rattle.rh_report.specs.declared.status.Status.{Status}
 use Rattle.rh_report.specs.declared.status.Status.TheVariants.{Done, NoMemory}
 use Rattle.rh_rule.specs.RuleFiles.{Rules}

@@ -6,7 +6,7 @@ use Rattle.rh_audit.specs.Audit.{IsAccepted, RefusesAudit}
 use Rattle.rh_gen.specs.Generated.{generated}
 use Rattle.rh_gen.specs.Standard.{standard_rules}
 use Rattle.rh_il.specs.declared.program.Proc.{Proc}
-use Rattle.rh_il_text.specs.Text.{program_text}
+use Rattle.rh_il_print.specs.Text.{program_text}
 use Rattle.rh_report.specs.declared.status.Large.TheVariants.{Terms}
 use Rattle.rh_report.specs.declared.status.Part.TheVariants.{Log}
 use Rattle.rh_report.specs.declared.status.Status.{Status}

@@ -2,7 +2,7 @@
 ghost use Rattle.std.specs.Prelude.{◌≡◌, ◌<◌, ◌≤◌, Some, IfErr, IfOk, OnOk};
 ghost use Rattle.rh_gen.specs.Generated.{generated};
 ghost use Rattle.rh_gen.specs.Standard.{standard_rules};
-ghost use Rattle.rh_il_text.specs.Text.{program_text};
+ghost use Rattle.rh_il_print.specs.Text.{program_text};
 ghost use Rattle.rh_top.specs.Call.{file, made};
 ghost use Rattle.rh_audit.specs.Audit.{HaveFewTerms};
 ghost use Rattle.rh_top.specs.Counts.{HaveRoom, RefusesCounts};

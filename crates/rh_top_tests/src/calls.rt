@@ -1,7 +1,10 @@
 //! One call of the top on two files.
 use rh_list::{Items, Text};
-use rh_outside::{MemShelf, NamedFile};
+use rh_outside::{MemShelf, MemSink, NamedFile, OpenGate, Shelf};
+use rh_report::Status;
+use rh_top::rhodium;
 use std::alloc::{AllocError, Global};
+use std::thread::Threads;
 
 /// A rule file, and a program of 39 bytes.
 pub(crate) const RULES: &[u8] = b"rule add_zero(var X, var A) { X := A + 0 => transform X := A }";
@@ -36,4 +39,20 @@ pub(crate) fn words_of(alloc: Global, texts: &[&str]) -> Result<Vec<String>, All
         words.push(String::from_str(alloc, text)?)?;
     }
     Ok(words)
+}
+
+/// A sink with room for the output.
+pub(crate) fn sink(alloc: Global) -> Result<MemSink, AllocError> {
+    MemSink::new(alloc, 1000, 1000, Vec::new(alloc))
+}
+
+/// The status of `opt r p`.
+pub(crate) fn opt<R: Threads + Sync, S: Shelf>(
+    rt: &R,
+    alloc: Global,
+    shelf: &mut S,
+    out: &mut MemSink,
+) -> Result<Status, AllocError> {
+    let words = words_of(alloc, &["opt", "r", "p"])?;
+    Ok(rhodium(rt, alloc, words.as_slice(), shelf, out, &OpenGate))
 }

@@ -1,18 +1,22 @@
 //! What is asked of the shelf, reads that fail, and programs that are cut short.
-use crate::calls::{OUTPUT, PROGRAM, RULES, shelf_with, words_of};
+use crate::calls::{OUTPUT, PROGRAM, RULES, opt, shelf_with, sink};
 use rh_il::{ProgFault, ProgWrong};
 use rh_il_text::ReadFault;
-use rh_outside::{Failed, MemShelf, MemSink, OpenGate, Shelf};
+use rh_outside::{Failed, MemShelf, Shelf};
 use rh_report::{Part, Status};
 use rh_text::LexFault;
-use rh_top::rhodium;
+use std::alloc::{AllocError, Global};
 use std::test::Fail;
+use std::thread::Threads;
 
-/// A shelf that keeps of each call which file it reads, the place and the length of the buffer.
+/// Which file is read, the place and the length of the buffer.
+type Asked = (Part, u64, usize);
+
+/// A shelf that keeps what each call asks.
 #[derive(Drop)]
 struct AskedShelf {
     shelf: MemShelf,
-    asked: Vec<(Part, u64, usize)>,
+    asked: Vec<Asked>,
 }
 
 impl Shelf for AskedShelf {
@@ -33,39 +37,51 @@ impl Shelf for AskedShelf {
     }
 }
 
-#[test]
-fn each_file_is_read_once_in_pieces(rt: HostRuntime) -> Result<(), Fail> {
-    let alloc = rt.alloc();
-    let words = words_of(alloc, &["opt", "r", "p"])?;
-    let mut shelf = AskedShelf {
+const ONCE: [Asked; 4] = [
+    (Part::Rules, 0, 65536),
+    (Part::Rules, 62, 65536),
+    (Part::Program, 0, 65536),
+    (Part::Program, 39, 65536),
+];
+
+fn asked_shelf(alloc: Global) -> Result<AskedShelf, AllocError> {
+    Ok(AskedShelf {
         shelf: shelf_with(alloc, RULES, PROGRAM, &[])?,
         asked: Vec::new(alloc),
-    };
-    let mut out = MemSink::new(alloc, 1000, 1000, Vec::new(alloc))?;
-    let status = rhodium(
-        &rt,
-        alloc,
-        words.as_slice(),
-        &mut shelf,
-        &mut out,
-        &OpenGate,
-    );
-    assert_eq!(rt; status, Status::Done);
-    assert_eq!(rt; out.bytes(), OUTPUT);
-    let once = [
-        (Part::Rules, 0, 65536),
-        (Part::Rules, 62, 65536),
-        (Part::Program, 0, 65536),
-        (Part::Program, 39, 65536),
-    ];
-    assert_eq!(rt; shelf.asked.as_slice(), once.as_slice());
+    })
+}
+
+/// What a call asks of its shelf, and whether it wrote the output.
+fn asked_by_call<R: Threads + Sync>(rt: &R, alloc: Global) -> Result<(Vec<Asked>, bool), Fail> {
+    let mut shelf = asked_shelf(alloc)?;
+    let mut out = sink(alloc)?;
+    let status = opt(rt, alloc, &mut shelf, &mut out)?;
+    let is_made = status == Status::Done && out.bytes() == OUTPUT;
+    Ok((shelf.asked, is_made))
+}
+
+#[test]
+fn each_file_is_read_once_in_pieces(rt: HostRuntime) -> Result<(), Fail> {
+    let (asked, is_made) = asked_by_call(&rt, rt.alloc())?;
+    assert!(rt; is_made && asked.as_slice() == ONCE.as_slice());
     Ok(())
+}
+
+/// The status for a program on a shelf whose calls with these numbers fail, and whether nothing was written.
+fn status_for<R: Threads + Sync>(
+    rt: &R,
+    alloc: Global,
+    program: &[u8],
+    fails: &[u64],
+) -> Result<(Status, bool), Fail> {
+    let mut shelf = shelf_with(alloc, RULES, program, fails)?;
+    let mut out = sink(alloc)?;
+    let status = opt(rt, alloc, &mut shelf, &mut out)?;
+    Ok((status, out.bytes().is_empty()))
 }
 
 #[test]
 fn a_failing_shelf_is_told(rt: HostRuntime) -> Result<(), Fail> {
-    let alloc = rt.alloc();
-    let words = words_of(alloc, &["opt", "r", "p"])?;
     for (call, told) in [
         (1, Status::ReadFault(Part::Rules)),
         (2, Status::ReadFault(Part::Rules)),
@@ -73,18 +89,8 @@ fn a_failing_shelf_is_told(rt: HostRuntime) -> Result<(), Fail> {
         (4, Status::ReadFault(Part::Program)),
         (5, Status::Done),
     ] {
-        let mut shelf = shelf_with(alloc, RULES, PROGRAM, &[call])?;
-        let mut out = MemSink::new(alloc, 1000, 1000, Vec::new(alloc))?;
-        let status = rhodium(
-            &rt,
-            alloc,
-            words.as_slice(),
-            &mut shelf,
-            &mut out,
-            &OpenGate,
-        );
-        assert_eq!(rt; status, told, "call {call}");
-        assert!(rt; out.bytes().is_empty() == (told != Status::Done));
+        let found = status_for(&rt, rt.alloc(), PROGRAM, &[call])?;
+        assert!(rt; found == (told, told != Status::Done), "call {call}");
     }
     Ok(())
 }
@@ -106,21 +112,12 @@ fn status_at(length: u32) -> Status {
 
 #[test]
 fn programs_that_are_cut_short_are_told(rt: HostRuntime) -> Result<(), Fail> {
-    let alloc = rt.alloc();
-    let words = words_of(alloc, &["opt", "r", "p"])?;
     for length in 0..PROGRAM.len() {
-        let mut shelf = shelf_with(alloc, RULES, &PROGRAM[..length], &[])?;
-        let mut out = MemSink::new(alloc, 1000, 1000, Vec::new(alloc))?;
-        let status = rhodium(
-            &rt,
-            alloc,
-            words.as_slice(),
-            &mut shelf,
-            &mut out,
-            &OpenGate,
+        let found = status_for(&rt, rt.alloc(), &PROGRAM[..length], &[])?;
+        assert!(rt;
+            found == (status_at(length as u32), true),
+            "cut to {length}"
         );
-        assert_eq!(rt; status, status_at(length as u32), "cut to {length}");
-        assert!(rt; out.bytes().is_empty());
     }
     Ok(())
 }

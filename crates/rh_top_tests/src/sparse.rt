@@ -1,8 +1,8 @@
 //! The bits that have rows, and that hints save turns on them: no clause says that.
-ghost use Rattle.std.specs.Prelude.{◌≡◌, length};
+ghost use Rattle.std.specs.Prelude.{◌≡◌, IfOk, vec_len};
 
 use crate::gates::{PROGRAM, RULES};
-use rh_engine::{solve, solve_hinted};
+use rh_engine::{Solved, solve, solve_hinted};
 use rh_il::{Base, Name, Proc, Program, Stmt, are_proper};
 use rh_il_text::read_program;
 use rh_list::Items;
@@ -13,14 +13,22 @@ use rh_rule_text::read_rules;
 use rh_sparse::Sparse;
 use rh_system::System;
 use rh_top::analyse;
-use std::alloc::Global;
+use std::alloc::{AllocError, Global};
 use std::process::Abort;
 use std::test::Fail;
+use std::thread::Threads;
 
 /// A fact that flows over jumps and begins nowhere.
 const FLOW: &[u8] = b"fact con(var X, const C) means X == C;
 rule con_goto(var X, const C) { goto when con(X, C) @ in => con(X, C) @ out }
 ";
+
+/// A ruling on each of so many rules, by which it is proved.
+fn all_admitted(alloc: Global, count: usize) -> Result<Vec<Ruling>, AllocError>
+    ensures { IfOk result (λ rulings. vec_len rulings ≡ count) }
+{
+    vec![in alloc; Ruling::Admitted; count]
+}
 
 /// The facts of a program, where all rules are taken for proved.
 fn grounded(
@@ -29,22 +37,16 @@ fn grounded(
     program: &Program,
 ) -> Result<Ground, Fail> {
     assert!(rt; rules.len() < 1000);
-    let file = read_rules(rt.alloc(), rules).map_err(|_| "no rule file")?;
-    let mut rulings = Vec::new(rt.alloc());
-    for _ in file.rules() {
-        rulings.push(Ruling::Admitted)?;
-    }
-    assert!(rt; file.rules().len() == rulings.len());
-    let ground = Ground::new(rt.alloc(), &file, rulings.as_slice(), program).map_err(
-        |_| "too many facts",
-    )?;
-    Ok(ground)
+    let file = read_rules(rt.alloc(), rules).ok().ok_or("no rule file")?;
+    let rulings = all_admitted(rt.alloc(), file.rules().len())?;
+    let ground = Ground::new(rt.alloc(), &file, rulings.as_slice(), program);
+    Ok(ground.ok().ok_or("too many facts")?)
 }
 
 /// Forty jumps one after another, from the last statement to the first, and then `return a`:
-/// `main(a) { goto 40; return a; goto 1; goto 2; .. goto 39; }`.
-fn jumps(rt: &(impl Alloc<A = Global> + Abort)) -> Result<Program, Fail> {
-    let mut body = Items::new(rt.alloc());
+/// `goto 40; return a; goto 1; goto 2; .. goto 39;`.
+fn body(alloc: Global) -> Result<Items<Stmt>, AllocError> {
+    let mut body = Items::new(alloc);
     body.push(Stmt::Goto { to: 40 })?;
     body.push(Stmt::Return {
         value: Base::Var(0),
@@ -52,54 +54,117 @@ fn jumps(rt: &(impl Alloc<A = Global> + Abort)) -> Result<Program, Fail> {
     for to in 1..40 {
         body.push(Stmt::Goto { to })?;
     }
-    let mut vars = Items::new(rt.alloc());
-    vars.push(Name::of(b"a").ok_or("no name")?)?;
-    let main = Proc {
-        name: Name::of(b"main").ok_or("no name")?,
-        vars,
-        body,
-    };
-    let procs = vec![in rt.alloc(); main]?;
+    Ok(body)
+}
+
+fn name(bytes: &[u8]) -> Result<Name, Fail> {
+    Ok(Name::of(bytes).ok_or("no name")?)
+}
+
+/// `main(a)` with the jumps.
+fn jumping(alloc: Global) -> Result<Proc, Fail> {
+    let name_of_main = name(b"main")?;
+    let a = name(b"a")?;
+    Ok(Proc {
+        name: name_of_main,
+        vars: Items::from(vec![in alloc; a]?),
+        body: body(alloc)?,
+    })
+}
+
+fn jumps(rt: &(impl Alloc<A = Global> + Abort)) -> Result<Program, Fail> {
+    let procs = vec![in rt.alloc(); jumping(rt.alloc())?]?;
     assert!(rt; are_proper(procs.as_slice()));
-    let program = Program::new(procs).map_err(|_| "no program")?;
-    Ok(program)
+    Ok(Program::new(procs).ok().ok_or("no program")?)
+}
+
+/// The candidates of the loop with a branch: how many there are, and some of them by their numbers.
+fn has_25_candidates(alloc: Global, ground: &Ground) -> Result<bool, Fail> {
+    let sparse = Sparse::new(alloc, ground)?;
+    Ok(
+        sparse.count() == 25
+            && sparse.words() == 1
+            && sparse.bit_at(0) == Some(69)
+            && sparse.bit_at(1) == Some(128)
+            && sparse.bit_at(24) == Some(325)
+            && sparse.bit_at(25) == None
+            && sparse.place_of(0) == None,
+    )
+}
+
+/// Whether one worker finds its facts.
+fn is_analysed<R: Threads + Sync>(rt: &R, alloc: Global, ground: &Ground) -> Result<bool, Fail> {
+    let analysed = analyse(rt, alloc, ground, 1, &OpenGate)?;
+    let words = [0, 32, 32, 32, 32, 32];
+    Ok(
+        analysed.words.as_slice() == words.as_slice()
+            && analysed.candidates == 25
+            && analysed.cleared == 20,
+    )
+}
+
+/// The facts of the loop.
+fn facts_of_loop(rt: &(impl Alloc<A = Global> + Abort)) -> Result<Ground, Fail> {
+    let program = read_program(rt.alloc(), PROGRAM).ok().ok_or("no program")?;
+    grounded(rt, RULES, &program)
 }
 
 #[test]
 fn a_loop_with_a_branch_has_25_candidates(rt: HostRuntime) -> Result<(), Fail> {
-    let program = read_program(rt.alloc(), PROGRAM).map_err(|_| "no program")?;
-    let ground = grounded(&rt, RULES, &program)?;
-    let sparse = Sparse::new(rt.alloc(), &ground)?;
-    assert_eq!(rt; sparse.count(), 25);
-    assert_eq!(rt; sparse.words(), 1);
-    for (number, bit) in [(0, Some(69)), (1, Some(128)), (24, Some(325)), (25, None)] {
-        assert_eq!(rt; sparse.bit_at(number), bit);
-    }
-    assert_eq!(rt; sparse.place_of(0), None);
-    let analysed = analyse(&rt, rt.alloc(), &ground, 1, &OpenGate)?;
-    assert_eq!(rt;
-        analysed.words.as_slice(),
-        [0, 32, 32, 32, 32, 32].as_slice()
-    );
-    assert_eq!(rt; analysed.candidates, 25);
-    assert_eq!(rt; analysed.cleared, 20);
+    let ground = facts_of_loop(&rt)?;
+    let has_candidates = has_25_candidates(rt.alloc(), &ground)?;
+    let is_found = is_analysed(&rt, rt.alloc(), &ground)?;
+    assert!(rt; has_candidates && is_found);
     Ok(())
+}
+
+/// The turns of workers that find that no fact holds.
+fn turns_of(solved: &Solved) -> Result<u64, Fail> {
+    if solved.words.as_slice() == [0, 0].as_slice() && solved.cleared == 80 {
+        Ok(solved.turns)
+    } else {
+        Err("a fact holds".into())
+    }
+}
+
+/// The turns of one worker, in the order of the words.
+fn turns_in_order<R: Threads + Sync>(rt: &R, alloc: Global, sparse: &Sparse) -> Result<u64, Fail> {
+    let solved = solve(rt, alloc, sparse, 1, &OpenGate)?;
+    turns_of(&solved)
+}
+
+/// The turns of one worker that follows hints.
+fn turns_by_hints<R: Threads + Sync>(rt: &R, alloc: Global, sparse: &Sparse) -> Result<u64, Fail> {
+    let solved = solve_hinted(rt, alloc, sparse, 1, &OpenGate)?;
+    turns_of(&solved)
+}
+
+/// The turns on the 80 candidates of the jumps, in order and by hints.
+fn both_turns<R: Threads + Sync>(
+    rt: &R,
+    alloc: Global,
+    ground: &Ground,
+) -> Result<(u64, u64), Fail> {
+    let sparse = Sparse::new(alloc, ground)?;
+    if sparse.count() != 80 {
+        return Err("not 80 candidates".into());
+    }
+    let in_order = turns_in_order(rt, alloc, &sparse)?;
+    let by_hints = turns_by_hints(rt, alloc, &sparse)?;
+    Ok((in_order, by_hints))
+}
+
+/// The facts of the jumps.
+fn facts_of_jumps(rt: &(impl Alloc<A = Global> + Abort)) -> Result<Ground, Fail> {
+    let program = jumps(rt)?;
+    grounded(rt, FLOW, &program)
 }
 
 /// A turn goes up the words, and so against the jumps.
 #[test]
 fn hints_save_turns(rt: HostRuntime) -> Result<(), Fail> {
-    let program = jumps(&rt)?;
-    let ground = grounded(&rt, FLOW, &program)?;
-    let sparse = Sparse::new(rt.alloc(), &ground)?;
-    assert_eq!(rt; sparse.count(), 80);
-    let slow = solve(&rt, rt.alloc(), &sparse, 1, &OpenGate)?;
-    let fast = solve_hinted(&rt, rt.alloc(), &sparse, 1, &OpenGate)?;
-    for solved in [&slow, &fast] {
-        assert_eq!(rt; solved.words.as_slice(), [0, 0].as_slice());
-        assert_eq!(rt; solved.cleared, 80);
-    }
-    assert!(rt; slow.turns >= 40);
-    assert_eq!(rt; fast.turns, 2);
+    let ground = facts_of_jumps(&rt)?;
+    let (in_order, by_hints) = both_turns(&rt, rt.alloc(), &ground)?;
+    assert!(rt; in_order >= 40 && by_hints == 2);
     Ok(())
 }

@@ -1,5 +1,5 @@
 use Rattle.std.proofs.Common.{◌≡◌, take}
-use Rattle.rh_il_text.specs.Words.{classes_of}
+use Rattle.rh_il_source.specs.Words.{classes_of}
 use Rattle.rh_il_text.proofs.read.classes_of.Given as goal
 
 abbrev pub invariant-loop-word : goal.invariant-loop-word

@@ -1,5 +1,5 @@
 use Rattle.std.proofs.Common.{◌≡◌, take}
-use Rattle.rh_il_text.specs.Words.{words_of}
+use Rattle.rh_il_source.specs.Words.{words_of}
 use Rattle.rh_il_text.proofs.read.words_of.Given as goal
 
 abbrev pub invariant-loop-token : goal.invariant-loop-token

@@ -1,11 +1,11 @@
-use Rattle.std.proofs.Common.{◌≡◌, ◌≤◌, ◌∙◌, ap, arith, false, true, length, sym, subst}
+use Rattle.std.proofs.Common.{◌≤◌, ◌∙◌, ap, arith, length, sym, subst}
 use Rattle.std.specs.List.{AllByRecursion, flat_map}
 use Rattle.rh_term.specs.Clause.{are_within}
 use Rattle.rh_meaning.specs.Sorts.{IsIn}
 use Rattle.rh_meaning.specs.Literal.{clause_trees, literal_trees}
 use Rattle.rh_meaning.specs.View.{clauses_of, lit_of}
 use Rattle.rh_oblig.proofs.Bridge.{trees_in}
-use Rattle.rh_oblig.specs.Obligation.{AreSmallClauses, obligation_clauses}
+use Rattle.rh_oblig.specs.Obligation.{AreSmallClauses}
 use Rattle.rh_oblig.proofs.Fits.{clauses_fit}
 use Rattle.rh_oblig.proofs.Sizes.{clauses_small}
 use Rattle.rh_oblig.proofs.obligation.obligation.Goals as goal
@@ -20,17 +20,14 @@ clauses-requires-clause-goal c =
     subst (λ terms. AllByRecursion (IsIn terms) (literal_trees (lit_of c.args.goal.now))) (sym c.in_ok-terms.ensures)
     (trees_in c.as_slice.result.now c.args.rule.now.pattern (clauses_of c.args.taken.now) (lit_of c.args.goal.now)).1
 
-pub unreachable-requires : goal.unreachable-requires
-unreachable-requires c =
-    let fit : are_within (length c.in_ok-terms.terms) c.into.result ≡ true =
-    ap (are_within (length c.in_ok-terms.terms)) (c.into.ensures ∙ c.in_ok-clauses.ensures)
-    ∙ clauses_fit c.in_ok-terms.terms c.as_slice.result.now c.args.rule.now.pattern (clauses_of c.args.taken.now) (lit_of c.args.goal.now) c.in_ok-terms.ensures c.requires.taken c.requires.goal c.len-count.ensures.list in
-    let absurd : false ≡ true = c.in-None.ensures.within.1 fit in
-    cc
+pub invariant_of-result : goal.invariant_of-result
+invariant_of-result c = record {
+  within =
+      ap (are_within (length c.in_ok-terms.terms)) c.in_ok-clauses.ensures
+      ∙ clauses_fit c.in_ok-terms.terms c.as_slice.result.now c.args.rule.now.pattern (clauses_of c.args.taken.now) (lit_of c.args.goal.now) c.in_ok-terms.ensures c.requires.taken c.requires.goal c.len-count.ensures.list;
+}
 
 pub returns-clause-short : goal.returns-clause-short
 returns-clause-short c =
     let small : length c.in_ok-terms.terms ≤ 512 = omega (arith, c.len-count.ensures.len) in
-    let clauses : c.in-Some.obligation.clauses ≡ obligation_clauses c.in_ok-terms.terms (clauses_of c.args.taken.now) (lit_of c.args.goal.now) =
-    c.in-Some.ensures.clauses ∙ c.into.ensures ∙ c.in_ok-clauses.ensures in
-    subst AreSmallClauses (sym clauses) (clauses_small c.in_ok-terms.terms (clauses_of c.args.taken.now) (lit_of c.args.goal.now) c.requires.hypotheses small)
+    subst AreSmallClauses (sym c.in_ok-clauses.ensures) (clauses_small c.in_ok-terms.terms (clauses_of c.args.taken.now) (lit_of c.args.goal.now) c.requires.hypotheses small)

@@ -11,16 +11,16 @@ use Rattle.rh_meaning.specs.Literal.{TreeLit, TreeClause, clause_trees, literal_
 use Rattle.rh_meaning.specs.Sorts.{IsSorted}
 use Rattle.rh_meaning.specs.View.{clauses_of, lit_of, lits_of}
 use Rattle.rh_oblig.specs.declared.obligation.ObligFault.TheVariants.{TooManyTerms}
-use Rattle.rh_oblig.specs.Goals.{goals as goals_of}
-use Rattle.rh_oblig.specs.Hypotheses.{hypotheses}
+use Rattle.rh_goals.specs.Goals.{goals as goals_of}
+use Rattle.rh_goals.specs.Hypotheses.{hypotheses}
 use Rattle.rh_oblig.specs.Obligation.{IsSmall, first_excess, parts_of, terms_of}
-use Rattle.rh_oblig.specs.Few.{AreFewClauses, trees_size}
+use Rattle.rh_goals.specs.Few.{AreFewClauses, trees_size}
 use Rattle.rh_oblig.specs.TermList.{first_trees, term_list}
 use Rattle.rh_oblig.proofs.Each.{at_goal, err_is, excess_more, part_for, part_is, parts_more, too_many_at}
-use Rattle.rh_oblig.proofs.RuleTrees.{goals_sorted, hypotheses_sorted}
-use Rattle.rh_oblig.proofs.Sizes.{hypotheses_fit, passed}
+use Rattle.rh_goals.proofs.RuleTrees.{goals_sorted, hypotheses_sorted}
+use Rattle.rh_goals.proofs.Sizes.{hypotheses_fit, passed}
 use Rattle.rh_oblig.proofs.Sound.{rule_numbers}
-use Rattle.rh_oblig.proofs.TreeSizes.{HasFewTerms, goals_have_few}
+use Rattle.rh_oblig.proofs.Leaves.{HasFewTerms, goals_have_few}
 use Rattle.rh_oblig.proofs.obligation.obligations_over.Goals as goal
 
 abbrev Part : Type 0

@@ -7,7 +7,7 @@ use Rattle.rh_meaning.specs.Sorts.{IsSorted}
 use Rattle.rh_meaning.specs.Literal.{clause_trees, literal_trees}
 use Rattle.rh_meaning.specs.Tree.{Tree}
 use Rattle.rh_meaning.specs.View.{clauses_of, lits_of}
-use Rattle.rh_oblig.specs.Few.{trees_size}
+use Rattle.rh_goals.specs.Few.{trees_size}
 use Rattle.rh_oblig.specs.TermList.{with_trees}
 use Rattle.rh_oblig.proofs.Build.{adds_piece, clauses_cut, piece_room}
 use Rattle.rh_oblig.proofs.term_list.add_clauses.Goals as goal

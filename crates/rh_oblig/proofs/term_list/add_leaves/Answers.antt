@@ -2,8 +2,7 @@ use Rattle.std.proofs.Common.{◌≡◌, List, length, arith, ap, sym, subst, �
 use Rattle.rh_term.specs.declared.term.Term.{Term}
 use Rattle.rh_oblig.specs.TermList.{AreFit, leaves_of}
 use Rattle.rh_oblig.proofs.Build.{leaves_are_fit}
-use Rattle.rh_oblig.proofs.RuleTrees.{leaves_fit}
-use Rattle.rh_oblig.proofs.TreeSizes.{leaves_size}
+use Rattle.rh_oblig.proofs.Leaves.{leaves_fit, leaves_size}
 use Rattle.rh_oblig.proofs.term_list.add_leaves.Goals as goal
 
 pub add_all-requires-clause-room : goal.add_all-requires-clause-room

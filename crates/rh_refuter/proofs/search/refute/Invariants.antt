@@ -1,5 +1,5 @@
 use Rattle.std.proofs.Common.{length}
-use Rattle.rh_refuter.specs.Choice.{AreDenials, Goes}
+use Rattle.rh_refuter.specs.Choice.{Goes}
 use Rattle.rh_refuter.proofs.Searching.{AreBranches}
 use Rattle.rh_refuter.proofs.Weight.{weight, most_equations}
 use Rattle.rh_refuter.proofs.search.refute.Given as goal
@@ -7,7 +7,6 @@ use Rattle.rh_refuter.proofs.search.refute.Given as goal
 abbrev pub invariant-loop-classes : goal.invariant-loop-classes
 invariant-loop-classes l = record {
   branches : AreBranches l.obligation.terms l.branches.items;
-  denials : AreDenials l.obligation.clauses (length l.obligation.clauses) l.denials.items;
   goes : Goes l.obligation.terms l.obligation.clauses l.nodes.items l.branches.items;
 }
 

@@ -1,7 +1,7 @@
 use Rattle.std.proofs.Common.{◌≡◌, ◌++◌, List, ℕ, rules, sym, subst}
 use Rattle.rh_il.specs.Checks.{IsProgram}
 use Rattle.rh_il_text.specs.Program.{IsText}
-use Rattle.rh_il_text.specs.Text.{program_text}
+use Rattle.rh_il_print.specs.Text.{program_text}
 use Rattle.rh_rule.specs.RuleFiles.{IsRuleFile}
 use Rattle.rh_rows.specs.Known.{known_in}
 use Rattle.rh_report.specs.Output.{fact_lines, rule_lines}

@@ -27,6 +27,6 @@ returns-clause-bits c = λ bit.
     let ground = c.args.ground.now in
     let is_file : IsRuleFile ground.file = subst IsRuleFile c.file.ensures c.rules.ensures.file in
     let count = c.words.ensures ground.file.schemas ground.program c.layout.ensures in
-    let marks = subst (λ (words : List ℕ). Marks (is_concluded ground.file ground.rulings ground.program) words c.mark_program.new.masks.items) (c.in_ok-masks.ensures.items_if_clones_equal (λ y same. same)) c.mark_program.ensures in
-    marks_all (is_concluded ground.file ground.rulings ground.program) c.words.result c.mark_program.new.masks.items marks (λ b. past_full ground.file ground.rulings ground.program b is_file c.words.result count) bit
-    ∙ concluded_has_row ground.file ground.rulings ground.program bit is_file
+    let marks = subst (λ (words : List ℕ). Marks (is_concluded ground.file c.args.rulings.now ground.program) words c.mark_program.new.masks.items) (c.in_ok-masks.ensures.items_if_clones_equal (λ y same. same)) c.mark_program.ensures in
+    marks_all (is_concluded ground.file c.args.rulings.now ground.program) c.words.result c.mark_program.new.masks.items marks (λ b. past_full ground.file c.args.rulings.now ground.program b is_file c.words.result count) bit
+    ∙ concluded_has_row ground.file c.args.rulings.now ground.program bit is_file

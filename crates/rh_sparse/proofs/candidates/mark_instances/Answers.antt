@@ -1,18 +1,13 @@
-use Rattle.std.proofs.Common.{Bool, ◌&&◌, List, ap, ◌∙◌, subst}
-use Rattle.rh_domain.specs.declared.domain.Domain.{Domain}
-use Rattle.rh_domain.specs.Binding.{Binding, bindings, bindings_in}
-use Rattle.rh_ground.specs.Instance.{is_instance}
-use Rattle.rh_system.specs.Bits.{BitSet}
-use Rattle.rh_sparse.specs.Candidates.{Marks, fact_on, is_bit_of}
-use Rattle.rh_sparse.proofs.Marking.{any_of, wanted_mark}
+use Rattle.std.proofs.Common.{sym, ◌∙◌}
+use Rattle.rh_sparse.specs.Candidates.{some_concludes}
+use Rattle.rh_sparse.proofs.Marking.{marks_nothing}
+use Rattle.rh_sparse.proofs.Outside.{mismatched}
 use Rattle.rh_sparse.proofs.candidates.mark_instances.Goals as goal
 
-pub returns : goal.returns
-returns c =
+pub returns-else-may_match : goal.returns-else-may_match
+returns-else-may_match c =
     let site = c.args.site.now in
     let rule = c.args.rule.now in
-    let tests : Binding → BitSet = λ binding. is_bit_of site.schemas.now site.program.now (fact_on site.place site.edge c.args.concluded.now binding) in
-    let accepts : Binding → Bool = λ binding. is_instance site.proc.now rule binding site.edge.node in
-    let same = ap (λ (d : Domain). bindings_in d c.as_slice.result.now) site.is.domain_is ∙ ap (bindings site.proc.now) c.as_slice.ensures.value in
-    subst (λ (bs : List Binding). Marks (any_of (λ binding bit. accepts binding && tests binding bit) bs) c.args.masks.now.items c.visit_bindings.new.kept.items) same
-    (wanted_mark tests accepts (bindings_in site.domain.now c.as_slice.result.now) c.args.masks.now c.visit_bindings.new.kept c.visit_bindings.ensures)
+    let concluded = c.args.concluded.now in
+    marks_nothing (some_concludes site.schemas.now site.program.now site.place site.proc.now site.edge rule concluded) c.args.masks.now.items
+    (λ bit below. mismatched site.schemas.now site.program.now site.place site.proc.now site.edge rule concluded (sym c.may_match.ensures ∙ c.if-may_match.false) bit)

@@ -3,7 +3,7 @@ use Rattle.rh_list.specs.Each.{Each}
 use Rattle.rh_il.specs.Checks.{IsProgram}
 use Rattle.rh_il.specs.Numbers.{HasNumbers}
 use Rattle.rh_il_text.specs.Program.{IsText}
-use Rattle.rh_il_text.specs.Text.{program_text}
+use Rattle.rh_il_print.specs.Text.{program_text}
 use Rattle.rh_report.specs.Output.{fact_lines, rule_lines}
 use Rattle.rh_rows.specs.BitRows.{rows_of}
 use Rattle.rh_rows.specs.Known.{known_in}

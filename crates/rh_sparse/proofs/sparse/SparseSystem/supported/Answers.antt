@@ -1,6 +1,9 @@
-use Rattle.std.proofs.Common.{◌<◌, sym, ◌∙◌, subst}
+use Rattle.std.proofs.Common.{◌<◌, ◌&&◌, ap, sym, ◌∙◌, subst}
 use Rattle.std.proofs.lemmas.Bool.{false≢true}
-use Rattle.rh_system.specs.Bits.{bits_in}
+use Rattle.rh_rank.specs.Rank.{rank}
+use Rattle.rh_rows.specs.declared.ground.Ground.{Ground}
+use Rattle.rh_system.specs.Bits.{BitSet, bits_in}
+use Rattle.rh_system.specs.Rows.{supports}
 use Rattle.rh_system.specs.Covered.{covered_by_all}
 use Rattle.rh_sparse.specs.Parts.{full_in, rows_in}
 use Rattle.rh_sparse.proofs.Numbers.{count_is, none_above, supported_number}
@@ -9,7 +12,10 @@ use Rattle.rh_sparse.proofs.sparse.SparseSystem.supported.Goals as goal
 pub returns-in-Some : goal.returns-in-Some
 returns-in-Some c =
     let me = c.args.self.now in
-    c.supported_by.ensures ∙ supported_number me.facts.now me.numbering.words me.candidates (bits_in c.args.words.now) c.in-Some.bit c.args.bit c.in-Some.ensures.set c.in-Some.ensures.number
+    let words = me.numbering.words in
+    let set : BitSet = λ other. bits_in words other && bits_in c.args.words.now (rank (bits_in words) other) in
+    c.is_supported.ensures ∙ ap (λ (f : Ground). supports (rows_in f) set c.in-Some.bit) me.same
+    ∙ supported_number me.facts.now me.numbering.words me.candidates (bits_in c.args.words.now) c.in-Some.bit c.args.bit c.in-Some.ensures.set c.in-Some.ensures.number
 
 pub returns-in-None : goal.returns-in-None
 returns-in-None c =

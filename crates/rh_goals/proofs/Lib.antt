@@ -1,0 +1,3 @@
+pub mod RuleTrees
+pub mod Sizes
+pub mod TreeSizes

@@ -1,0 +1,5 @@
+pub mod Statement
+pub mod Hypotheses
+pub mod Goals
+pub mod Few
+pub mod Valid

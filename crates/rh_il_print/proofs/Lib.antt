@@ -1,0 +1,13 @@
+pub mod Places
+pub mod Fits
+pub mod Derived
+pub mod Naming
+pub mod Placed
+pub mod Checked
+pub mod Back
+pub mod ProcsBack
+pub mod Pieced
+pub mod PieceText
+pub mod PieceWords
+pub mod PieceRuns
+pub mod Again

@@ -1,7 +1,0 @@
-use Rattle.std.proofs.Common.{◌≡◌, ◌++◌}
-use Rattle.rh_meaning.specs.View.{clauses_of, lits_of}
-use Rattle.rh_oblig.specs.Hypotheses.{units}
-use Rattle.rh_oblig.proofs.hypotheses.push_units.Given as goal
-
-abbrev pub invariant-loop-lit : goal.invariant-loop-lit
-invariant-loop-lit l = clauses_of l.clauses.items ≡ clauses_of l.fn.clauses.items ++ units (lits_of l.yielded)

@@ -1,0 +1,16 @@
+pub mod Pieces
+pub mod Each
+pub mod Prints
+pub mod FixedTexts
+pub mod Tells
+pub mod PrintedNames
+pub mod DistinctNames
+pub mod PrintedBases
+pub mod PrintedFacts
+pub mod PrintedForms
+pub mod PrintedConditions
+pub mod PrintedRules
+pub mod PrintedItems
+pub mod PrintedFiles
+pub mod Printable
+pub mod PrintedText
